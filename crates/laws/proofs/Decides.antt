@@ -1,0 +1,22 @@
+-- A computed test that decides a statement: it is true exactly when the statement holds.
+use mathlib.Core.Path.{_≡_, refl}
+use mathlib.Core.Logic.{_⊎_, inl, inr, ⊎-elim}
+use mathlib.Core.Bool.{Bool, true, false, true≢false, _||_}
+use Prim.Native.Nat.{ℕ, _<_}
+use native.Mathlib.Omega.{arith}
+use borrow.Author.Tests.{ltb-true, ltb-false, eqb-true, eqb-false}
+use lib.Dec.{ltb, eqb}
+
+pub record Decides (test : Bool) (P : Type 0) : Type 0 where
+  pub holds : test ≡ true → P
+  pub fails : test ≡ false → P → ⊥
+
+pub less : (a b : ℕ) → Decides (ltb a b) (a < b)
+less a b = record { holds = ltb-true a b; fails = λ e h. omega (arith, ltb-false a b e) }
+
+pub equal : (a b : ℕ) → Decides (eqb a b) (a ≡ b)
+equal a b = record { holds = eqb-true a b; fails = eqb-false a b }
+
+pub either : {P Q : Type 0} (a b : Bool) → Decides a P → Decides b Q → Decides (a || b) (P ⊎ Q)
+either true b p q = record { holds = λ e. inl (p .holds refl); fails = λ e. absurd (true≢false e) }
+either false b p q = record { holds = λ e. inr (q .holds e); fails = λ e. ⊎-elim (p .fails refl) (q .fails e) }

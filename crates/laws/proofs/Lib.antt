@@ -1,0 +1,5 @@
+-- Laws that belong to no one subject.
+pub mod Decides
+pub mod Refusals
+pub mod Split
+pub mod Table
