@@ -10,6 +10,7 @@ use Rattle.counter.specs.Kind.{Kind, stepOf}
 use Rattle.counter.specs.Answers.{Answer, given, refused, noSuch, stepAnswer, valueAnswer, countAnswer}
 use Rattle.counter.proofs.CountLaws.{count-of-value, value-of-count, value-below, count-below}
 
+-- The step of a kind: given up to 63, refused above.
 pub step-given : (k : Kind) (v : ℕ) → v ≤ 63 → stepAnswer k v ≡ given (stepOf k v)
 unfolding stepAnswer
 step-given k v h = rw (le-ltb 63 v h)
@@ -18,6 +19,7 @@ pub step-refused : (k : Kind) (v : ℕ) → 63 < v → stepAnswer k v ≡ refuse
 unfolding stepAnswer
 step-refused k v h = rw (lt-ltb 63 v h)
 
+-- The value of a count: given up to 62, refused above.
 pub value-given : (n : ℕ) → n < 63 → valueAnswer n ≡ given (valueOf n)
 unfolding valueAnswer
 value-given n h = rw (le-ltb 62 n (omega arith))
@@ -26,6 +28,7 @@ pub value-refused : (n : ℕ) → 63 ≤ n → valueAnswer n ≡ refused noSuch
 unfolding valueAnswer
 value-refused n h = rw (lt-ltb 62 n h)
 
+-- The count of a value: given below 111111, refused from there on.
 count-given : (v : ℕ) → v < 0b111111 → countAnswer v ≡ given (countOf v)
 unfolding countAnswer
 count-given v h = rw (le-ltb 63 v (omega arith), ne-eqb v 63 (omega arith))
@@ -44,6 +47,7 @@ pub count-missing : (v : ℕ) → ((n : ℕ) → n < 63 → valueOf n ≡ v → 
 count-missing v none =
     ⊎-elim (λ (h : v < 63). absurd (none (countOf v) (count-below v h) (value-of-count v h))) (count-refused v) (split v 63)
 
+-- An answer is not both refused and given, and it gives one value.
 clash : {a : Answer} {v : ℕ} → a ≡ refused noSuch → a ≡ given v → ⊥
 clash p q = let z : _≡_ {A = ℕ} 10 0 = ap (λ (a : Answer). a .number) (sym p ∙ q) in omega arith
 

@@ -14,6 +14,7 @@ pub card-agrees : (n : ℕ) → n < 63 → getD card n 0 ≡ valueOf n
 unfolding card valueOf after plainStep
 card-agrees n h = eqb→eq (getD card n 0) (valueOf n) (at (λ n entry. eqb entry (valueOf n)) card tt n h)
 
+-- Count and value are each other's inverse.
 pub count-of-value : (n : ℕ) → n < 63 → countOf (valueOf n) ≡ n
 unfolding valueOf countOf after stepsTo plainStep
 count-of-value = below-equal 63 (λ n. countOf (valueOf n)) (λ n. n) tt
@@ -22,6 +23,7 @@ pub value-of-count : (v : ℕ) → v < 0b111111 → valueOf (countOf v) ≡ v
 unfolding valueOf countOf after stepsTo plainStep
 value-of-count = below-equal 63 (λ v. valueOf (countOf v)) (λ v. v) tt
 
+-- The 63 counts have values below 111111, and these values have counts up to 62.
 pub value-below : (n : ℕ) → n < 63 → valueOf n < 0b111111
 unfolding valueOf after plainStep
 value-below = below-less 63 valueOf (λ n. 63) tt

@@ -17,6 +17,7 @@ pub ones-stay : plainStep 0b111111 ≡ 0b111111
 unfolding plainStep
 ones-stay = refl
 
+-- The plain step in arithmetic, by one computed test over the 64 values.
 plain-is-halved : (v : ℕ) → v < 64 → plainStep v ≡ cond (eqb (v % 2) (v / 2 % 2)) (0b100000 + v / 2) (v / 2)
 unfolding plainStep
 plain-is-halved = below-equal 64 plainStep (λ v. cond (eqb (v % 2) (v / 2 % 2)) (0b100000 + v / 2) (v / 2)) tt
@@ -29,6 +30,7 @@ leftmost-one v h e = plain-is-halved v (omega arith) ∙ rw (eq-eqb (v % 2) (v /
 pub leftmost-zero : (v : ℕ) → v ≤ 63 → (v % 2 ≡ v / 2 % 2 → ⊥) → plainStep v ≡ v / 2
 leftmost-zero v h ne = plain-is-halved v (omega arith) ∙ rw (ne-eqb (v % 2) (v / 2 % 2) ne)
 
+-- From the wrap value and from 111111 the step gives 000000, from every other value the plain step.
 pub wrapped : (wrap v : ℕ) → (eqb v wrap || eqb v 0b111111) ≡ true → wrapStep wrap v ≡ 0b000000
 unfolding wrapStep
 wrapped wrap v e = rw e

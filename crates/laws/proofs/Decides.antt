@@ -7,10 +7,12 @@ use native.Mathlib.Omega.{arith}
 use borrow.Author.Tests.{ltb-true, ltb-false, eqb-true, eqb-false}
 use lib.Dec.{ltb, eqb}
 
+-- What a test shows of a statement that it decides.
 pub record Decides (test : Bool) (P : Type 0) : Type 0 where
   pub holds : test ≡ true → P
   pub fails : test ≡ false → P → ⊥
 
+-- The tests of two numbers, and of two statements joined by "or".
 pub less : (a b : ℕ) → Decides (ltb a b) (a < b)
 less a b = record { holds = ltb-true a b; fails = λ e h. omega (arith, ltb-false a b e) }
 
