@@ -1,6 +1,6 @@
 -- The step rule in arithmetic: what the code computes in each of its branches.
 use mathlib.Core.Path.{_≡_, _∙_, refl}
-use mathlib.Core.Bool.{true, false, cond, _||_}
+use mathlib.Core.Bool.{cond}
 use Prim.Native.Nat.{ℕ, _+_, _/_, _%_, _<_, _≤_}
 use native.Mathlib.Omega.{arith}
 use borrow.Author.Tests.{eq-eqb, ne-eqb}
@@ -30,11 +30,17 @@ leftmost-one v h e = plain-is-halved v (omega arith) ∙ rw (eq-eqb (v % 2) (v /
 pub leftmost-zero : (v : ℕ) → v ≤ 63 → (v % 2 ≡ v / 2 % 2 → ⊥) → plainStep v ≡ v / 2
 leftmost-zero v h ne = plain-is-halved v (omega arith) ∙ rw (ne-eqb (v % 2) (v / 2 % 2) ne)
 
--- From the wrap value and from 111111 the step gives 000000, from every other value the plain step.
-pub wrapped : (wrap v : ℕ) → (eqb v wrap || eqb v 0b111111) ≡ true → wrapStep wrap v ≡ 0b000000
+-- From the wrap value the step gives 000000, ..
+pub from-wrap : (wrap v : ℕ) → v ≡ wrap → wrapStep wrap v ≡ 0b000000
 unfolding wrapStep
-wrapped wrap v e = rw e
+from-wrap wrap v e = rw (eq-eqb v wrap e)
 
-pub not-wrapped : (wrap v : ℕ) → (eqb v wrap || eqb v 0b111111) ≡ false → wrapStep wrap v ≡ plainStep v
+-- .. from another value that is 111111 too, ..
+pub from-ones : (wrap v : ℕ) → (v ≡ wrap → ⊥) → v ≡ 0b111111 → wrapStep wrap v ≡ 0b000000
 unfolding wrapStep
-not-wrapped wrap v e = rw e
+from-ones wrap v ne e = rw (ne-eqb v wrap ne, eq-eqb v 0b111111 e)
+
+-- .. and from every other value the plain step.
+pub from-other : (wrap v : ℕ) → (v ≡ wrap → ⊥) → (v ≡ 0b111111 → ⊥) → wrapStep wrap v ≡ plainStep v
+unfolding wrapStep
+from-other wrap v ne ne-ones = rw (ne-eqb v wrap ne, ne-eqb v 0b111111 ne-ones)

@@ -23,7 +23,10 @@ pub(crate) fn wrap_step(wrap: u8, value: u8) -> u8
     requires { ⌜ value ≤ 63 ⌝ }
     ensures { λ r. ⌜ r ≡ wrapStep wrap value ⌝ }
 {
-    if (value == wrap) | (value == ONES) {
+    if value == wrap {
+        return 0b000000;
+    }
+    if value == ONES {
         0b000000
     } else {
         plain_step(value)
