@@ -1,9 +1,29 @@
 //! The command line of the second program: one command a report.
 
+mod cases;
+mod chip_cases;
+mod chip_report;
+mod chip_state;
+mod clock;
+mod collisions;
 mod counter;
 mod counter_report;
+mod coverage;
+mod coverage_list;
+mod failure;
+mod faults;
+mod lit;
+mod object;
+mod random;
+mod random_states;
+mod random_writes;
 mod refusal;
+mod registers;
+mod single_cases;
+mod state_bytes;
+mod walk_cases;
 
+use failure::Failure;
 use std::env;
 use std::ffi::OsString;
 use std::io::{self, BufWriter, Write};
@@ -13,14 +33,26 @@ use std::process::ExitCode;
 struct Command {
     name: &'static str,
     prints: &'static str,
-    write: fn(&mut dyn Write) -> io::Result<()>,
+    write: fn(&mut dyn Write) -> Result<(), Failure>,
 }
 
-const COMMANDS: [Command; 1] = [Command {
-    name: "counter",
-    prints: "the six-bit counter's answers for every byte",
-    write: counter_report::write,
-}];
+const COMMANDS: [Command; 3] = [
+    Command {
+        name: "counter",
+        prints: "the six-bit counter's answers for every byte",
+        write: |out| Ok(counter_report::write(out)?),
+    },
+    Command {
+        name: "chip_cases",
+        prints: "the case file of single clocks and walks (binary)",
+        write: chip_cases::write,
+    },
+    Command {
+        name: "chip",
+        prints: "the chip's answers for the cases of the case file",
+        write: |out| Ok(chip_report::write(out)?),
+    },
+];
 
 /// The command that the arguments name; none if they are not exactly one known name.
 fn chosen(arguments: &[OsString]) -> Option<&'static Command> {
@@ -39,15 +71,27 @@ fn usage() -> String {
     text
 }
 
-/// Writes the chosen report to standard output, a write error being the end of it; without
-/// a known command writes the usage message to standard error and answers status 2.
+/// The exit status: 0 for a whole report, and for a write error, which only ends it; 1 for cases
+/// that miss something, which is named on the error output.
+fn status(written: Result<(), Failure>, errors: &mut dyn Write) -> u8 {
+    match written {
+        Ok(()) | Err(Failure::WriteError) => 0,
+        Err(Failure::Missing(text)) => {
+            let _ = errors.write_all(text.as_bytes());
+            1
+        }
+    }
+}
+
+/// Writes what the chosen command prints to standard output; without a known command writes the
+/// usage message to standard error and answers status 2.
 fn main() -> ExitCode {
     let arguments: Vec<OsString> = env::args_os().skip(1).collect();
     match chosen(&arguments) {
         Some(command) => {
             let mut out = BufWriter::new(io::stdout().lock());
-            let _ = (command.write)(&mut out).and_then(|()| out.flush());
-            ExitCode::SUCCESS
+            let written = (command.write)(&mut out).and_then(|()| Ok(out.flush()?));
+            ExitCode::from(status(written, &mut io::stderr()))
         }
         None => {
             let _ = io::stderr().write_all(usage().as_bytes());
@@ -69,6 +113,8 @@ mod tests {
     #[test]
     fn exactly_one_known_name_chooses_a_command() {
         assert_eq!(name_of(&["counter"]), Some("counter"));
+        assert_eq!(name_of(&["chip_cases"]), Some("chip_cases"));
+        assert_eq!(name_of(&["chip"]), Some("chip"));
         assert_eq!(name_of(&[]), None);
         assert_eq!(name_of(&[""]), None);
         assert_eq!(name_of(&["Counter"]), None);
@@ -84,6 +130,20 @@ mod tests {
         let mut report = Vec::new();
         counter_report::write(&mut report).unwrap();
         assert_eq!(by_command, report);
+    }
+
+    #[test]
+    fn only_missing_things_fail_and_are_named() {
+        let cases = [
+            (Ok(()), 0, ""),
+            (Err(Failure::WriteError), 0, ""),
+            (Err(Failure::Missing("this\n".into())), 1, "this\n"),
+        ];
+        for (written, expected, text) in cases {
+            let mut errors = Vec::new();
+            assert_eq!(status(written, &mut errors), expected);
+            assert_eq!(errors, text.as_bytes());
+        }
     }
 
     #[test]

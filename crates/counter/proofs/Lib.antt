@@ -4,4 +4,3 @@ pub mod CountLaws
 pub mod KindLaws
 pub mod AnswerLaws
 pub mod RefusalLaws
-pub mod CaseProofs

@@ -1,12 +1,14 @@
 -- Refusal 10 is given exactly when its row of the table holds.
 use mathlib.Core.Path.{_≡_, refl}
 use mathlib.Core.Logic.{_⊎_}
+use mathlib.Core.List.{[], _∷_}
 use mathlib.Core.Bool.{Bool, true, false, cond}
 use Prim.Native.Nat.{ℕ, _<_}
+use native.Mathlib.Omega.{arith}
 use lib.Dec.{ltb, eqb}
-use Rattle.laws.specs.Refusal.{GivenExactly}
-use Rattle.laws.proofs.Decides.{less, equal, either}
-use Rattle.laws.proofs.Refusals.{given-exactly}
+use Rattle.laws.specs.Refusal.{row, GivenInOrder}
+use Rattle.laws.proofs.Decides.{Decides, less, equal, either}
+use Rattle.laws.proofs.Refusals.{in-order}
 use Rattle.counter.specs.Kind.{Kind}
 use Rattle.counter.specs.Answers.{given, refused, noSuch, noSuchCount, noSuchValue, noSuchConversion, stepAnswer, valueAnswer, countAnswer}
 
@@ -15,18 +17,22 @@ number-is : (test : Bool) (v : ℕ) → (cond test (refused noSuch) (given v)) .
 number-is true v = refl
 number-is false v = refl
 
+-- Refusal 10 alone, decided by one test.
+one-row : {When : Type 0} (test : Bool) → Decides test When → GivenInOrder (row noSuch When ∷ []) (cond test noSuch 0)
+one-row {When} test d = in-order (row noSuch When) [] test 0 d (λ e. omega arith) refl
+
 -- The step refuses a value over 63.
-pub step-refused-exactly : (k : Kind) (v : ℕ) → GivenExactly noSuch (63 < v) (stepAnswer k v .number)
+pub step-refused-exactly : (k : Kind) (v : ℕ) → GivenInOrder (row noSuch (63 < v) ∷ []) (stepAnswer k v .number)
 unfolding stepAnswer
-step-refused-exactly k v = rw number-is (given-exactly 9 (noSuchValue v) (less 63 v))
+step-refused-exactly k v = rw number-is (one-row (noSuchValue v) (less 63 v))
 
 -- The value of a count is refused for a count over 62.
-pub value-refused-exactly : (n : ℕ) → GivenExactly noSuch (62 < n) (valueAnswer n .number)
+pub value-refused-exactly : (n : ℕ) → GivenInOrder (row noSuch (62 < n) ∷ []) (valueAnswer n .number)
 unfolding valueAnswer
-value-refused-exactly n = rw number-is (given-exactly 9 (noSuchCount n) (less 62 n))
+value-refused-exactly n = rw number-is (one-row (noSuchCount n) (less 62 n))
 
 -- The count of a value is refused for a value over 63 and for 111111.
-pub count-refused-exactly : (v : ℕ) → GivenExactly noSuch ((63 < v) ⊎ (v ≡ 0b111111)) (countAnswer v .number)
+pub count-refused-exactly : (v : ℕ) → GivenInOrder (row noSuch ((63 < v) ⊎ (v ≡ 0b111111)) ∷ []) (countAnswer v .number)
 unfolding countAnswer
 count-refused-exactly v =
-    rw number-is (given-exactly 9 (noSuchConversion v) (either (ltb 63 v) (eqb v 63) (less 63 v) (equal v 63)))
+    rw number-is (one-row (noSuchConversion v) (either (ltb 63 v) (eqb v 63) (less 63 v) (equal v 63)))

@@ -3,4 +3,3 @@ pub mod Step
 pub mod Count
 pub mod Kind
 pub mod Answers
-pub mod Cases

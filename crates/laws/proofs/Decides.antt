@@ -1,7 +1,7 @@
 -- A computed test that decides a statement: it is true exactly when the statement holds.
-use mathlib.Core.Path.{_≡_, refl}
+use mathlib.Core.Path.{_≡_, _∙_, refl, sym}
 use mathlib.Core.Logic.{_⊎_, inl, inr, ⊎-elim}
-use mathlib.Core.Bool.{Bool, true, false, true≢false, _||_}
+use mathlib.Core.Bool.{Bool, true, false, true≢false, _||_, not}
 use Prim.Native.Nat.{ℕ, _<_}
 use native.Mathlib.Omega.{arith}
 use borrow.Author.Tests.{ltb-true, ltb-false, eqb-true, eqb-false}
@@ -22,3 +22,11 @@ equal a b = record { holds = eqb-true a b; fails = eqb-false a b }
 pub either : {P Q : Type 0} (a b : Bool) → Decides a P → Decides b Q → Decides (a || b) (P ⊎ Q)
 either true b p q = record { holds = λ e. inl (p .holds refl); fails = λ e. absurd (true≢false e) }
 either false b p q = record { holds = λ e. inr (q .holds e); fails = λ e. ⊎-elim (p .fails refl) (q .fails e) }
+
+-- A test decides that it passes; its negation, that it fails.
+pub passes : (test : Bool) → Decides test (test ≡ true)
+passes test = record { holds = λ e. e; fails = λ no yes. true≢false (sym yes ∙ no) }
+
+pub misses : (test : Bool) → Decides (not test) (test ≡ false)
+misses true = record { holds = λ e. absurd (true≢false (sym e)); fails = λ no e. true≢false e }
+misses false = record { holds = λ e. refl; fails = λ no e. true≢false no }

@@ -1,4 +1,5 @@
 -- Laws that belong to no one subject.
+pub mod Bools
 pub mod Decides
 pub mod Refusals
 pub mod Split

@@ -1,6 +1,6 @@
 -- A rule of a table, or of all numbers below a bound: one computed test over the whole, and the law that gives it at each place.
-use mathlib.Core.Path.{_≡_, _∙_, sym, subst}
-use mathlib.Core.Bool.{Bool, true, false, _&&_}
+use mathlib.Core.Path.{_≡_, _∙_, refl, sym, subst}
+use mathlib.Core.Bool.{Bool, Bool·beq, true, false, _&&_}
 use mathlib.Core.List.{List, [], _∷_}
 use Prim.Native.Nat.{ℕ, zero, suc, _+_, _<_}
 use native.Mathlib.Nat.{add-zero, zero-add, add-suc, suc-add, le-of-suc-le-suc, not-suc-le-zero}
@@ -45,3 +45,12 @@ below-equal n f g t k h = eqb→eq (f k) (g k) (below n (λ k. eqb (f k) (g k)) 
 
 pub below-less : (n : ℕ) (f g : ℕ → ℕ) → T (everyBelow n (λ k. ltb (f k) (g k))) → (k : ℕ) → k < n → f k < g k
 below-less n f g t k h = ltb→lt (f k) (g k) (below n (λ k. ltb (f k) (g k)) t k h)
+
+same : (a b : Bool) → T (Bool·beq a b) → a ≡ b
+same true true t = refl
+same true false t = absurd t
+same false true t = absurd t
+same false false t = refl
+
+pub below-same : (n : ℕ) (f g : ℕ → Bool) → T (everyBelow n (λ k. Bool·beq (f k) (g k))) → (k : ℕ) → k < n → f k ≡ g k
+below-same n f g t k h = same (f k) (g k) (below n (λ k. Bool·beq (f k) (g k)) t k h)

@@ -1,0 +1,200 @@
+// The state as 61 bytes, one a field, in the order of the case file.
+ghost use Prim.Native.Nat.{_≤_};
+use tia::Enable;
+use tia::Graphic;
+use tia::Latches;
+use tia::Nusiz;
+use tia::Object;
+use tia::Objects;
+use tia::Player;
+use tia::Playfield;
+use tia::Registers;
+use tia::State;
+use tia::Timing;
+
+// The object of four bytes from a place.
+fn object_from(bytes: &[u8; 64], at: usize) -> Object
+    requires { ⌜ at ≤ 17 ⌝ }
+{
+    Object {
+        position: bytes[at],
+        age: bytes[at + 1],
+        motion: bytes[at + 2],
+        live: bytes[at + 3] != 0,
+    }
+}
+
+// The latches, from byte 25 on.
+fn latches_from(bytes: &[u8; 64]) -> Latches {
+    Latches {
+        m0_p1: bytes[25] != 0,
+        m0_p0: bytes[26] != 0,
+        m1_p0: bytes[27] != 0,
+        m1_p1: bytes[28] != 0,
+        p0_pf: bytes[29] != 0,
+        p0_bl: bytes[30] != 0,
+        p1_pf: bytes[31] != 0,
+        p1_bl: bytes[32] != 0,
+        m0_pf: bytes[33] != 0,
+        m0_bl: bytes[34] != 0,
+        m1_pf: bytes[35] != 0,
+        m1_bl: bytes[36] != 0,
+        bl_pf: bytes[37] != 0,
+        p0_p1: bytes[38] != 0,
+        m0_m1: bytes[39] != 0,
+    }
+}
+
+// The registers, from byte 40 on.
+fn registers_from(bytes: &[u8; 64]) -> Registers {
+    Registers {
+        nusiz0: Nusiz {
+            copies: bytes[40],
+            width: bytes[41],
+        },
+        nusiz1: Nusiz {
+            copies: bytes[42],
+            width: bytes[43],
+        },
+        playfield: Playfield {
+            ctrlpf: bytes[44],
+            pf0: bytes[47],
+            pf1: bytes[48],
+            pf2: bytes[49],
+        },
+        graphic0: Graphic {
+            reflected: bytes[45] != 0,
+            new: bytes[50],
+            old: bytes[51],
+            delayed: bytes[58] != 0,
+        },
+        graphic1: Graphic {
+            reflected: bytes[46] != 0,
+            new: bytes[52],
+            old: bytes[53],
+            delayed: bytes[59] != 0,
+        },
+        enam0: bytes[54] != 0,
+        enam1: bytes[55] != 0,
+        enabl: Enable {
+            new: bytes[56] != 0,
+            old: bytes[57] != 0,
+            delayed: bytes[60] != 0,
+        },
+    }
+}
+
+// The state of the first 61 bytes.
+pub(crate) fn state_from(bytes: &[u8; 64]) -> State {
+    State {
+        timing: Timing {
+            h: bytes[0],
+            slot: bytes[23],
+            late: bytes[24] != 0,
+        },
+        objects: Objects {
+            p0: Player {
+                body: object_from(bytes, 1),
+                size: bytes[21],
+            },
+            p1: Player {
+                body: object_from(bytes, 5),
+                size: bytes[22],
+            },
+            m0: object_from(bytes, 9),
+            m1: object_from(bytes, 13),
+            bl: object_from(bytes, 17),
+        },
+        registers: registers_from(bytes),
+        latches: latches_from(bytes),
+    }
+}
+
+// A flag as a byte.
+fn flag(set: bool) -> u8 {
+    if set { 1 } else { 0 }
+}
+
+// The 61 bytes of a state.
+pub(crate) fn bytes_of(state: State) -> [u8; 61] {
+    let timing = state.timing;
+    let objects = state.objects;
+    let player0 = objects.p0;
+    let player1 = objects.p1;
+    let p0 = player0.body;
+    let p1 = player1.body;
+    let m0 = objects.m0;
+    let m1 = objects.m1;
+    let bl = objects.bl;
+    let latches = state.latches;
+    let registers = state.registers;
+    let nusiz0 = registers.nusiz0;
+    let nusiz1 = registers.nusiz1;
+    let playfield = registers.playfield;
+    let graphic0 = registers.graphic0;
+    let graphic1 = registers.graphic1;
+    let enabl = registers.enabl;
+    [
+        timing.h,
+        p0.position,
+        p0.age,
+        p0.motion,
+        flag(p0.live),
+        p1.position,
+        p1.age,
+        p1.motion,
+        flag(p1.live),
+        m0.position,
+        m0.age,
+        m0.motion,
+        flag(m0.live),
+        m1.position,
+        m1.age,
+        m1.motion,
+        flag(m1.live),
+        bl.position,
+        bl.age,
+        bl.motion,
+        flag(bl.live),
+        player0.size,
+        player1.size,
+        timing.slot,
+        flag(timing.late),
+        flag(latches.m0_p1),
+        flag(latches.m0_p0),
+        flag(latches.m1_p0),
+        flag(latches.m1_p1),
+        flag(latches.p0_pf),
+        flag(latches.p0_bl),
+        flag(latches.p1_pf),
+        flag(latches.p1_bl),
+        flag(latches.m0_pf),
+        flag(latches.m0_bl),
+        flag(latches.m1_pf),
+        flag(latches.m1_bl),
+        flag(latches.bl_pf),
+        flag(latches.p0_p1),
+        flag(latches.m0_m1),
+        nusiz0.copies,
+        nusiz0.width,
+        nusiz1.copies,
+        nusiz1.width,
+        playfield.ctrlpf,
+        flag(graphic0.reflected),
+        flag(graphic1.reflected),
+        playfield.pf0,
+        playfield.pf1,
+        playfield.pf2,
+        graphic0.new,
+        graphic0.old,
+        graphic1.new,
+        graphic1.old,
+        flag(registers.enam0),
+        flag(registers.enam1),
+        flag(enabl.new),
+        flag(enabl.old),
+        flag(graphic0.delayed),
+        flag(graphic1.delayed),
+        flag(enabl.delayed),
+    ]
+}

@@ -1,0 +1,37 @@
+-- Laws of tests: conjunctions, and a choice between two values.
+use mathlib.Core.Path.{_≡_, refl, sym}
+use mathlib.Core.Bool.{Bool, true, false, cond, _&&_, _||_, true≢false}
+
+-- A conjunction that holds, and its two parts.
+pub and-both : {a b : Bool} → a ≡ true → b ≡ true → (a && b) ≡ true
+and-both p q = rw (p, q)
+
+pub and-first : (a b : Bool) → (a && b) ≡ true → a ≡ true
+and-first true b e = refl
+and-first false b e = e
+
+pub and-second : (a b : Bool) → (a && b) ≡ true → b ≡ true
+and-second true b e = e
+and-second false b e = absurd (true≢false (sym e))
+
+-- A choice between a value and itself.
+pub cond-same : {A : Type 0} (b : Bool) (x : A) → cond b x x ≡ x
+cond-same true x = refl
+cond-same false x = refl
+
+-- A test that passes at both values passes at the chosen one.
+pub cond-passes : {A : Type 0} (test : A → Bool) (b : Bool) {x y : A} → test x ≡ true → test y ≡ true → test (cond b x y) ≡ true
+cond-passes test true p q = p
+cond-passes test false p q = q
+
+-- A disjunction that fails, and its two parts.
+pub or-neither : {a b : Bool} → a ≡ false → b ≡ false → (a || b) ≡ false
+or-neither p q = rw (p, q)
+
+pub or-first : (a b : Bool) → (a || b) ≡ false → a ≡ false
+or-first true b e = e
+or-first false b e = refl
+
+pub or-second : (a b : Bool) → (a || b) ≡ false → b ≡ false
+or-second true b e = absurd (true≢false e)
+or-second false b e = e

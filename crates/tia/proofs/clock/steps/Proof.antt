@@ -1,0 +1,46 @@
+-- `steps` meets its contract.
+use native.Mathlib.Omega.{arith}
+use Rattle.tia.proofs.TimingLaws.{slot-written}
+use Rattle.tia.specs.Clock.{clockOf}
+use borrow.Author.Needs.{needs}
+use Rattle.tia.proofs.clock.steps.Statement.{statement}
+use Rattle.tia.proofs.clock.steps.Tie as tie
+
+lit-of-requires : tie.Need-lit-of-requires
+lit-of-requires c κs = rw (c .before .before .before .written .ensures) (omega arith)
+
+after-requires : tie.Need-after-requires
+after-requires c κs = search needs
+
+after-requires-2 : tie.Need-after-requires-2
+after-requires-2 c κs =
+    rw (c .before .before .before .before .before .before .written .ensures) (omega arith, slot-written (c .before .before .before .before .before .before .before .args .write) (c .before .before .before .before .before .before .before .args .state .timing) (omega arith))
+
+returns : tie.Need-returns
+unfolding clockOf
+returns c = rw (
+  c .answer .ensures,
+  c .before .after2 .ensures,
+  c .before .before .after .ensures,
+  c .before .before .before .written3 .ensures,
+  c .before .before .before .before .lit-of .ensures,
+  c .before .before .before .before .before .clocked .ensures,
+  c .before .before .before .before .before .before .tick .ensures,
+  c .before .before .before .before .before .before .before .written2 .ensures,
+  c .before .before .before .before .before .before .before .before .written .ensures,
+)
+
+pub steps-spec : {M : Type 1} → statement M
+steps-spec =
+    tie.close
+    (tie.spec
+    (λ c κs. tt)
+    (λ c κs. tt)
+    (λ c κs. tt)
+    (λ c κs. tt)
+    lit-of-requires
+    (λ c κs. tt)
+    after-requires
+    after-requires-2
+    (λ c κs. tt)
+    returns)

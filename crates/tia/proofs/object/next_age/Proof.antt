@@ -1,0 +1,23 @@
+-- `next_age` meets its contract.
+use borrow.Author.Tests.{le-leb, le-ltb, lt-leb, lt-ltb}
+use borrow.Author.Needs.{needs}
+use Rattle.tia.proofs.object.next_age.Statement.{statement}
+use Rattle.tia.proofs.object.next_age.Tie as tie
+
+add-result : tie.Need-add-result
+add-result c = search needs
+
+returns : tie.Need-returns
+returns c = simp (
+  lt-ltb _ _ (c .if1 .taken),
+  lt-leb _ _ (c .if1 .taken),
+)
+
+returns-2 : tie.Need-returns-2
+returns-2 c = simp (
+  le-leb _ _ (c .if1 .left),
+  le-ltb _ _ (c .if1 .left),
+)
+
+pub next-age-spec : {M : Type 1} → statement M
+next-age-spec = tie.close (tie.spec add-result returns returns-2)

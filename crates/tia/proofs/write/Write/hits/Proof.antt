@@ -1,0 +1,19 @@
+-- `hits` meets its contract.
+use borrow.Author.Needs.{needs}
+use Rattle.tia.proofs.write.Write.hits.Statement.{statement}
+use Rattle.tia.proofs.write.Write.hits.Tie as tie
+
+enum-told : tie.Need-enum-told
+enum-told c = search needs
+
+enum-known-self : tie.Need-enum-known-self
+enum-known-self c = search needs
+
+returns : tie.Need-returns
+returns c = search needs
+
+returns-2 : tie.Need-returns-2
+returns-2 c = rw (c .before .self .given .1)
+
+pub hits-spec : {M : Type 1} → statement M
+hits-spec = tie.close (tie.spec enum-told enum-known-self returns returns-2)

@@ -1,0 +1,66 @@
+-- Which objects a clock lights (steps 8 and 9), and its answer byte (step 10).
+use Prim.Native.Nat.{ℕ, _+_, _-_, _*_, _/_, _%_}
+use mathlib.Core.Bool.{Bool, cond, _&&_}
+use lib.Dec.{eqb, ltb, leb}
+use Rattle.tia.specs.declared.lit.Lit.{Lit}
+use Rattle.tia.specs.declared.object.Object.{Object}
+use Rattle.tia.specs.declared.object.Player.{Player}
+use Rattle.tia.specs.declared.registers.Enable.{Enable}
+use Rattle.tia.specs.declared.registers.Graphic.{Graphic}
+use Rattle.tia.specs.declared.registers.Registers.{Registers}
+use Rattle.tia.specs.declared.state.Objects.{Objects}
+use Rattle.tia.specs.Registers.{bit}
+use Rattle.tia.specs.Timing.{blankClocks}
+use Rattle.tia.specs.Playfield.{playfieldLit}
+
+-- 8. Lit: player at ages 5 to 4 + 8 x size, showing bit (age - 5) / size from bit 7 down, or from bit 0 up when
+-- reflected, of the new graphic, or the old with VDELP. Age 5 is *kit*.
+abbrev pub shownGraphic : Graphic → ℕ
+shownGraphic g = cond (g .delayed) (g .old) (g .new)
+
+abbrev pub shownBit : Graphic → ℕ → Bool
+shownBit g n = bit (cond (g .reflected) n (7 - n)) (shownGraphic g)
+
+abbrev pub drawnFrom : Graphic → (size age : ℕ) → Bool
+drawnFrom g size age = (leb 5 age && leb age (4 + 8 * size)) && shownBit g ((age - 5) / size)
+
+unfoldable pub playerLit : Graphic → Player → Bool
+playerLit g p = drawnFrom g (p .size) (p .body .age)
+
+-- Missile and ball at ages 4 to 3 + width when enabled. Age 4 is *kit*.
+unfoldable pub widthOf : ℕ → ℕ
+widthOf code = cond (eqb code 0) 1 (cond (eqb code 1) 2 (cond (eqb code 2) 4 8))
+
+unfoldable pub missileLit : Bool → ℕ → Object → Bool
+missileLit enabled code o = enabled && (leb 4 (o .age) && leb (o .age) (3 + widthOf code))
+
+-- Ball: old enable with VDELBL; its width is that of CTRLPF bits 4-5.
+unfoldable pub ballLit : Enable → ℕ → Object → Bool
+ballLit e ctrlpf o = missileLit (cond (e .delayed) (e .old) (e .new)) (ctrlpf / 16 % 4) o
+
+-- 9. Column x = h - 68.
+abbrev pub columnOf : ℕ → ℕ
+columnOf h = h - blankClocks
+
+-- 8 and 9: registers are read at this clock, after step 2, and objects after step 7.
+unfoldable pub litOf : ℕ → Registers → Objects → Lit
+litOf h r os =
+    record {
+      p0 = playerLit (r .graphic0) (os .p0);
+      p1 = playerLit (r .graphic1) (os .p1);
+      m0 = missileLit (r .enam0) (r .nusiz0 .width) (os .m0);
+      m1 = missileLit (r .enam1) (r .nusiz1 .width) (os .m1);
+      bl = ballLit (r .enabl) (r .playfield .ctrlpf) (os .bl);
+      pf = playfieldLit (r .playfield) (columnOf h);
+    }
+
+-- 10. The answer byte: 128 for h below 68; 64 for a blank column; otherwise bits 0 to 5 for P0, P1, M0, M1, BL, PF.
+abbrev pub litWeight : Bool → ℕ → ℕ
+litWeight lit w = cond lit w 0
+
+unfoldable pub litBits : Lit → ℕ
+litBits l =
+    litWeight (l .p0) 1 + (litWeight (l .p1) 2 + (litWeight (l .m0) 4 + (litWeight (l .m1) 8 + (litWeight (l .bl) 16 + litWeight (l .pf) 32))))
+
+unfoldable pub answerByte : ℕ → Bool → Lit → ℕ
+answerByte h blank l = cond (ltb h blankClocks) 128 (cond blank 64 (litBits l))

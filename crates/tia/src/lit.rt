@@ -1,0 +1,161 @@
+// Which objects a clock lights (steps 8 and 9), and its answer byte (step 10).
+ghost use mathlib.Core.Path.{_≡_};
+ghost use Prim.Native.Nat.{_≤_, _<_};
+ghost use Rattle.tia.specs.Lit.{widthOf, shownBit, playerLit, missileLit, ballLit, columnOf, litOf, litWeight, litBits, answerByte};
+use crate::choose::bit;
+use crate::choose::byte;
+use crate::choose::flag;
+use crate::object::Object;
+use crate::object::Player;
+use crate::registers::Enable;
+use crate::registers::Graphic;
+use crate::registers::Registers;
+use crate::state::Objects;
+use crate::timing::BLANK;
+
+// The ages at which a player, and at which a missile or the ball, lights its first column.
+const PLAYER_AGE: u8 = 5;
+
+const MISSILE_AGE: u8 = 4;
+
+// The answer bytes of the horizontal blank and of a blank column.
+const IN_BLANK: u8 = 128;
+
+const BLANK_COLUMN: u8 = 64;
+
+// The objects and the playfield, each lit or not.
+pub(crate) struct Lit {
+    pub(crate) p0: bool,
+    pub(crate) p1: bool,
+    pub(crate) m0: bool,
+    pub(crate) m1: bool,
+    pub(crate) bl: bool,
+    pub(crate) pf: bool,
+}
+
+impl Player {
+    // Whether the player is lit.
+    fn lit(self, graphic: Graphic) -> bool
+        ensures { λ r. ⌜ r ≡ playerLit graphic self ⌝ }
+    {
+        let body = self.body;
+        let age = body.age;
+        let size = self.size;
+        if age < PLAYER_AGE {
+            return false;
+        }
+        let drawn = age - PLAYER_AGE;
+        if drawn as usize >= 8 * (size as usize) {
+            return false;
+        }
+        graphic.shown(drawn / size)
+    }
+}
+
+impl Graphic {
+    // Whether the graphic shows pixel n, counted from the left.
+    fn shown(self, n: u8) -> bool
+        requires { ⌜ n < 8 ⌝ }
+        ensures { λ r. ⌜ r ≡ shownBit self n ⌝ }
+    {
+        let graphic = byte(self.delayed, self.old, self.new);
+        bit(byte(self.reflected, n, 7 - n), graphic)
+    }
+}
+
+impl Object {
+    // Whether a missile or the ball is lit.
+    fn lit(self, enabled: bool, code: u8) -> bool
+        ensures { λ r. ⌜ r ≡ missileLit enabled code self ⌝ }
+    {
+        let age = self.age;
+        enabled & ((MISSILE_AGE <= age) & (age <= 3 + width_of(code)))
+    }
+
+    // Whether the ball is lit.
+    fn ball_lit(self, enable: Enable, ctrlpf: u8) -> bool
+        ensures { λ r. ⌜ r ≡ ballLit enable ctrlpf self ⌝ }
+    {
+        let enabled = flag(enable.delayed, enable.old, enable.new);
+        self.lit(enabled, ctrlpf / 16 % 4)
+    }
+}
+
+// The width of a width code.
+fn width_of(code: u8) -> u8
+    ensures { λ r. ⌜ (r ≡ widthOf code) × (r ≤ 8) ⌝ }
+{
+    if code == 0 {
+        return 1;
+    }
+    if code == 1 {
+        return 2;
+    }
+    if code == 2 {
+        return 4;
+    }
+    8
+}
+
+// The column of a line clock; 0 in the horizontal blank.
+fn column_of(h: u8) -> u8
+    requires { ⌜ h ≤ 227 ⌝ }
+    ensures { λ r. ⌜ (r ≡ columnOf h) × (r < 160) ⌝ }
+{
+    if h < BLANK { 0 } else { h - BLANK }
+}
+
+// What is lit at line clock h.
+pub(crate) fn lit_of(h: u8, registers: Registers, objects: Objects) -> Lit
+    requires { ⌜ h ≤ 227 ⌝ }
+    ensures { λ r. ⌜ r ≡ litOf h registers objects ⌝ }
+{
+    let nusiz0 = registers.nusiz0;
+    let nusiz1 = registers.nusiz1;
+    let playfield = registers.playfield;
+    let p0 = objects.p0;
+    let p1 = objects.p1;
+    let m0 = objects.m0;
+    let m1 = objects.m1;
+    let bl = objects.bl;
+    Lit {
+        p0: p0.lit(registers.graphic0),
+        p1: p1.lit(registers.graphic1),
+        m0: m0.lit(registers.enam0, nusiz0.width),
+        m1: m1.lit(registers.enam1, nusiz1.width),
+        bl: bl.ball_lit(registers.enabl, playfield.ctrlpf),
+        pf: playfield.lit(column_of(h)),
+    }
+}
+
+// The weight of a lit object's bit; 0 if it is not lit.
+pub(crate) fn weight(lit: bool, bit: u8) -> u8
+    ensures { λ r. ⌜ (r ≡ litWeight lit bit) × (r ≤ bit) ⌝ }
+{
+    if lit { bit } else { 0 }
+}
+
+impl Lit {
+    // Bits 0 to 5 for P0, P1, M0, M1, BL, PF.
+    fn bits(self) -> u8
+        ensures { λ r. ⌜ r ≡ litBits self ⌝ }
+    {
+        weight(self.p0, 1)
+            + (weight(self.p1, 2)
+                + (weight(self.m0, 4)
+                    + (weight(self.m1, 8) + (weight(self.bl, 16) + weight(self.pf, 32)))))
+    }
+
+    // The answer byte of line clock h.
+    pub(crate) fn answer(self, h: u8, blank: bool) -> u8
+        ensures { λ r. ⌜ r ≡ answerByte h blank self ⌝ }
+    {
+        if h < BLANK {
+            return IN_BLANK;
+        }
+        if blank {
+            return BLANK_COLUMN;
+        }
+        self.bits()
+    }
+}
