@@ -20,7 +20,7 @@ use Rattle.tia.specs.declared.write.Write.{Write}
 use Rattle.tia.specs.Registers.{NUSIZ0, NUSIZ1, CTRLPF, REFP0, REFP1, PF0, PF1, PF2, GRP0, GRP1, HMBL, HMM0, HMM1, HMP0, HMP1, RESBL, RESM0, RESM1, RESP0, RESP1, VDELP0, VDELP1, HMOVE, HMCLR, hits, byteOf, upper, nusizAfter, graphicAfter, playfieldAfter, registersAfter}
 use Rattle.tia.specs.State.{timingInRange, objectInRange, playerInRange, objectsInRange, nusizInRange, playfieldInRange, graphicInRange, registersInRange, inRange, anyLive, liveAtRest, badState}
 use Rattle.tia.specs.Timing.{timingWritten, comparing, tickOf, timingAfter}
-use Rattle.tia.specs.Object.{eitherObject, equalSlot, objectWritten, slotPassed, pulsed, strobed, isPulsed, isStarted, reached, older, sizeOf, objectMoved, objectAfter, playerAfter, missileAfter, ballAfter}
+use Rattle.tia.specs.Object.{equalSlot, objectWritten, slotPassed, pulsedIf, strobedIf, isPulsed, isStarted, reached, older, sizeOf, objectMoved, objectAfter, playerAfter, missileAfter, ballAfter}
 use Rattle.tia.specs.Clock.{objectsAfter, clockOf}
 use Rattle.tia.proofs.TimingLaws.{slot-written}
 
@@ -94,28 +94,26 @@ written-stays hm w o ok =
     (and-first (leb (o .age) 64) _ rest)
     (chosen 15 (hits w hm) (upper (byteOf w)) _ (omega arith) (chosen 15 (hits w HMCLR) 0 (o .motion) (omega arith) (and-second (leb (o .age) 64) _ rest))))
 
-pulsed-stays : (start : Bool) (o : Object) → objectInRange o ≡ true → objectInRange (pulsed start o) ≡ true
-pulsed-stays start o ok =
+pulsed-stays : (pulse start : Bool) (o : Object) → objectInRange o ≡ true → objectInRange (pulsedIf pulse start o) ≡ true
+pulsed-stays pulse start o ok =
     let rest = and-second (leb (o .position) 159) (leb (o .age) 64 && leb (o .motion) 15) ok in
+    let aged = chosen 64 pulse (older (o .age)) (o .age) (older-up-to (o .age)) (and-first (leb (o .age) 64) _ rest) in
     and-both
-    (le-leb (reached (o .position)) 159 (omega arith))
-    (and-both (chosen 64 start 0 (older (o .age)) (omega arith) (le-leb _ 64 (older-up-to (o .age)))) (and-second (leb (o .age) 64) _ rest))
+    (chosen 159 pulse ((o .position + 1) % 160) (o .position) (omega arith) (and-first (leb (o .position) 159) _ ok))
+    (and-both (chosen 64 start 0 (cond pulse (older (o .age)) (o .age)) (omega arith) aged) (and-second (leb (o .age) 64) _ rest))
 
-strobed-stays : (o : Object) → objectInRange o ≡ true → objectInRange (strobed o) ≡ true
-strobed-stays o ok = and-both refl (and-second (leb (o .position) 159) _ ok)
-
-either-stays : (b : Bool) (x y : Object) → objectInRange x ≡ true → objectInRange y ≡ true → objectInRange (eitherObject b x y) ≡ true
-either-stays true x y p q = p
-either-stays false x y p q = q
+strobed-stays : (strobe : Bool) (o : Object) → objectInRange o ≡ true → objectInRange (strobedIf strobe o) ≡ true
+strobed-stays strobe o ok =
+    and-both
+    (chosen 159 strobe 0 (o .position) (omega arith) (and-first (leb (o .position) 159) _ ok))
+    (and-second (leb (o .position) 159) _ ok)
 
 moved-stays : (k : Tick) (strobe : Bool) (copies : ℕ) (o : Object) → objectInRange o ≡ true → objectInRange (objectMoved k strobe copies o .object) ≡ true
 unfolding objectMoved
 moved-stays k strobe copies o ok =
     let slotted = slotPassed k o in
-    let moving = pulsed (isStarted k strobe copies o) slotted in
-    let moved = eitherObject (isPulsed k o) moving slotted in
-    let ok-moved = either-stays (isPulsed k o) moving slotted (pulsed-stays (isStarted k strobe copies o) slotted ok) ok in
-    either-stays strobe (strobed moved) moved (strobed-stays moved ok-moved) ok-moved
+    let start = isStarted k strobe copies o in
+    strobed-stays strobe (pulsedIf (isPulsed k o) start slotted) (pulsed-stays (isPulsed k o) start slotted ok)
 
 object-stays : (k : Tick) (strobe hm copies : ℕ) (w : Write) (o : Object) → objectInRange o ≡ true → objectInRange (objectAfter k strobe hm copies w o .object) ≡ true
 unfolding objectAfter
@@ -189,10 +187,6 @@ rest-live false false live equal slot never rest e = rw (rest e)
 hmove-waits : (w : Write) (t : Timing) → hits w HMOVE ≡ true → comparing w t ≡ false
 hmove-waits w t e = rw (e, and-false, and-false)
 
-moved-live : (k : Tick) (strobe : Bool) (copies : ℕ) (o : Object) → objectMoved k strobe copies o .object .live ≡ slotPassed k o .live
-unfolding objectMoved
-moved-live k strobe copies o = cond-same strobe _ ∙ cond-same (isPulsed k o) _
-
 -- The clock's tick from a state's timing.
 abbrev tickAt : Write → Timing → Tick
 tickAt w t = tickOf w (timingWritten w t)
@@ -202,10 +196,9 @@ abbrev slotAfter : Write → Timing → ℕ
 slotAfter w t = timingAfter (tickAt w t .comparing) (timingWritten w t) .slot
 
 object-rests : (strobe hm copies : ℕ) (w : Write) (t : Timing) (o : Object) → (t .slot ≡ 16 → o .live ≡ false) → slotAfter w t ≡ 16 → objectAfter (tickAt w t) strobe hm copies w o .object .live ≡ false
-unfolding objectAfter
+unfolding objectAfter objectMoved
 object-rests strobe hm copies w t o rest e =
-    moved-live (tickAt w t) (hits w strobe) copies (objectWritten hm w o)
-    ∙ rest-live
+    rest-live
     (comparing w (timingWritten w t))
     (hits w HMOVE)
     (o .live)

@@ -1,7 +1,7 @@
 -- An object's motion and position: the compared value is 8 plus the signed motion value, and a pulse steps the position counter.
 use mathlib.Core.Path.{_≡_, _∙_, refl, sym, ap}
 use mathlib.Core.Logic.{⊎-elim}
-use mathlib.Core.Bool.{Bool, cond}
+use mathlib.Core.Bool.{Bool, true, cond}
 use Prim.Native.Nat.{ℕ, _+_, _-_, _%_, _<_, _≤_}
 use native.Mathlib.Omega.{arith}
 use borrow.Author.Tests.{lt-ltb, le-ltb}
@@ -15,7 +15,7 @@ use Rattle.counter.specs.Count.{valueOf}
 use Rattle.counter.specs.Kind.{position, stepOf}
 use Rattle.tia.specs.declared.object.Object.{Object}
 use Rattle.tia.specs.Signed.{signed}
-use Rattle.tia.specs.Object.{compareValue, counterValue, reached, pulsed}
+use Rattle.tia.specs.Object.{compareValue, counterValue, reached, pulsedIf}
 
 -- The value that the slot is compared with is 8 plus the signed motion value.
 upright : (m : ℕ) → m < 8 → pos (compareValue m) ≡ pos 8 +ℤ pos m
@@ -33,6 +33,12 @@ compare-is-signed m h =
     ⊎-elim (λ (l : m < 8). rw (lt-ltb m 8 l) (upright m l)) (λ (l : 8 ≤ m). rw (le-ltb m 8 l) (turned m l h)) (split m 8)
 
 -- One pulse steps the position counter exactly when position modulo 4 is 3, and leaves it otherwise.
-pub pulse-steps-counter : (start : Bool) (o : Object) → o .position < 160 → counterValue (pulsed start o .position) ≡ cond (eqb (o .position % 4) 3) (stepOf position (counterValue (o .position))) (counterValue (o .position))
+pub pulse-steps-counter : (start : Bool) (o : Object) → o .position < 160 → counterValue (pulsedIf true start o .position) ≡ cond (eqb (o .position % 4) 3) (stepOf position (counterValue (o .position))) (counterValue (o .position))
 unfolding valueOf after plainStep wrapStep
-pulse-steps-counter start o = below-equal 160 (λ p. counterValue (reached p)) (λ p. cond (eqb (p % 4) 3) (stepOf position (counterValue p)) (counterValue p)) tt (o .position)
+pulse-steps-counter start o =
+    below-equal
+    160
+    (λ p. counterValue (reached true p))
+    (λ p. cond (eqb (p % 4) 3) (stepOf position (counterValue p)) (counterValue p))
+    tt
+    (o .position)

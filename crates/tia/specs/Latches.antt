@@ -12,71 +12,51 @@ use Rattle.tia.specs.State.{noLatches}
 abbrev pub pairsOf : Lit → Latches
 pairsOf l =
     record {
-      «m0_p1» = l .m0 && l .p1;
-      «m0_p0» = l .m0 && l .p0;
-      «m1_p0» = l .m1 && l .p0;
-      «m1_p1» = l .m1 && l .p1;
-      «p0_pf» = l .p0 && l .pf;
-      «p0_bl» = l .p0 && l .bl;
-      «p1_pf» = l .p1 && l .pf;
-      «p1_bl» = l .p1 && l .bl;
-      «m0_pf» = l .m0 && l .pf;
-      «m0_bl» = l .m0 && l .bl;
-      «m1_pf» = l .m1 && l .pf;
-      «m1_bl» = l .m1 && l .bl;
-      «bl_pf» = l .bl && l .pf;
-      «p0_p1» = l .p0 && l .p1;
-      «m0_m1» = l .m0 && l .m1;
+      m0p1 = l .m0 && l .p1;
+      m0p0 = l .m0 && l .p0;
+      m1p0 = l .m1 && l .p0;
+      m1p1 = l .m1 && l .p1;
+      p0pf = l .p0 && l .pf;
+      p0bl = l .p0 && l .bl;
+      p1pf = l .p1 && l .pf;
+      p1bl = l .p1 && l .bl;
+      m0pf = l .m0 && l .pf;
+      m0bl = l .m0 && l .bl;
+      m1pf = l .m1 && l .pf;
+      m1bl = l .m1 && l .bl;
+      blpf = l .bl && l .pf;
+      p0p1 = l .p0 && l .p1;
+      m0m1 = l .m0 && l .m1;
     }
 
--- One of two sets of latches, and the latches set in either.
-abbrev pub eitherLatches : Bool → Latches → Latches → Latches
-eitherLatches b x y =
+-- Two sets of latches made one, latch by latch.
+abbrev pub eachLatch : (Bool → Bool → Bool) → Latches → Latches → Latches
+eachLatch f x y =
     record {
-      «m0_p1» = cond b (x .«m0_p1») (y .«m0_p1»);
-      «m0_p0» = cond b (x .«m0_p0») (y .«m0_p0»);
-      «m1_p0» = cond b (x .«m1_p0») (y .«m1_p0»);
-      «m1_p1» = cond b (x .«m1_p1») (y .«m1_p1»);
-      «p0_pf» = cond b (x .«p0_pf») (y .«p0_pf»);
-      «p0_bl» = cond b (x .«p0_bl») (y .«p0_bl»);
-      «p1_pf» = cond b (x .«p1_pf») (y .«p1_pf»);
-      «p1_bl» = cond b (x .«p1_bl») (y .«p1_bl»);
-      «m0_pf» = cond b (x .«m0_pf») (y .«m0_pf»);
-      «m0_bl» = cond b (x .«m0_bl») (y .«m0_bl»);
-      «m1_pf» = cond b (x .«m1_pf») (y .«m1_pf»);
-      «m1_bl» = cond b (x .«m1_bl») (y .«m1_bl»);
-      «bl_pf» = cond b (x .«bl_pf») (y .«bl_pf»);
-      «p0_p1» = cond b (x .«p0_p1») (y .«p0_p1»);
-      «m0_m1» = cond b (x .«m0_m1») (y .«m0_m1»);
-    }
-
-abbrev pub joinedLatches : Latches → Latches → Latches
-joinedLatches x y =
-    record {
-      «m0_p1» = x .«m0_p1» || y .«m0_p1»;
-      «m0_p0» = x .«m0_p0» || y .«m0_p0»;
-      «m1_p0» = x .«m1_p0» || y .«m1_p0»;
-      «m1_p1» = x .«m1_p1» || y .«m1_p1»;
-      «p0_pf» = x .«p0_pf» || y .«p0_pf»;
-      «p0_bl» = x .«p0_bl» || y .«p0_bl»;
-      «p1_pf» = x .«p1_pf» || y .«p1_pf»;
-      «p1_bl» = x .«p1_bl» || y .«p1_bl»;
-      «m0_pf» = x .«m0_pf» || y .«m0_pf»;
-      «m0_bl» = x .«m0_bl» || y .«m0_bl»;
-      «m1_pf» = x .«m1_pf» || y .«m1_pf»;
-      «m1_bl» = x .«m1_bl» || y .«m1_bl»;
-      «bl_pf» = x .«bl_pf» || y .«bl_pf»;
-      «p0_p1» = x .«p0_p1» || y .«p0_p1»;
-      «m0_m1» = x .«m0_m1» || y .«m0_m1»;
+      m0p1 = f (x .m0p1) (y .m0p1);
+      m0p0 = f (x .m0p0) (y .m0p0);
+      m1p0 = f (x .m1p0) (y .m1p0);
+      m1p1 = f (x .m1p1) (y .m1p1);
+      p0pf = f (x .p0pf) (y .p0pf);
+      p0bl = f (x .p0bl) (y .p0bl);
+      p1pf = f (x .p1pf) (y .p1pf);
+      p1bl = f (x .p1bl) (y .p1bl);
+      m0pf = f (x .m0pf) (y .m0pf);
+      m0bl = f (x .m0bl) (y .m0bl);
+      m1pf = f (x .m1pf) (y .m1pf);
+      m1bl = f (x .m1bl) (y .m1bl);
+      blpf = f (x .blpf) (y .blpf);
+      p0p1 = f (x .p0p1) (y .p0p1);
+      m0m1 = f (x .m0m1) (y .m0m1);
     }
 
 -- 2. CXCLR clears all latches.
 unfoldable pub latchesWritten : Write → Latches → Latches
-latchesWritten w x = eitherLatches (hits w CXCLR) noLatches x
+latchesWritten w x = eachLatch (cond (hits w CXCLR)) noLatches x
 
 -- 10. .. In an unblanked column every pair lit together sets its latch.
 unfoldable pub latchesAfter : Bool → Lit → Latches → Latches
-latchesAfter blank l x = eitherLatches blank x (joinedLatches x (pairsOf l))
+latchesAfter blank l x = eachLatch (cond blank) x (eachLatch _||_ x (pairsOf l))
 
 -- Latch read-out, eight bytes, bits 7 and 6: M0-P1 M0-P0; M1-P0 M1-P1; P0-PF P0-BL; P1-PF P1-BL; M0-PF M0-BL;
 -- M1-PF M1-BL; BL-PF and 0; P0-P1 M0-M1. Other bits 0.
@@ -85,12 +65,12 @@ readOutByte high low = cond high 128 0 + cond low 64 0
 
 unfoldable pub readOut : Latches → List ℕ
 readOut x =
-    readOutByte (x .«m0_p1») (x .«m0_p0»)
-    ∷ readOutByte (x .«m1_p0») (x .«m1_p1»)
-    ∷ readOutByte (x .«p0_pf») (x .«p0_bl»)
-    ∷ readOutByte (x .«p1_pf») (x .«p1_bl»)
-    ∷ readOutByte (x .«m0_pf») (x .«m0_bl»)
-    ∷ readOutByte (x .«m1_pf») (x .«m1_bl»)
-    ∷ readOutByte (x .«bl_pf») false
-    ∷ readOutByte (x .«p0_p1») (x .«m0_m1»)
+    readOutByte (x .m0p1) (x .m0p0)
+    ∷ readOutByte (x .m1p0) (x .m1p1)
+    ∷ readOutByte (x .p0pf) (x .p0bl)
+    ∷ readOutByte (x .p1pf) (x .p1bl)
+    ∷ readOutByte (x .m0pf) (x .m0bl)
+    ∷ readOutByte (x .m1pf) (x .m1bl)
+    ∷ readOutByte (x .blpf) false
+    ∷ readOutByte (x .p0p1) (x .m0m1)
     ∷ []

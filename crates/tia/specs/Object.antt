@@ -1,6 +1,6 @@
 -- A movable object in a clock: steps 2 and 4 to 7, once for P0, P1, M0, M1 and BL.
 use Prim.Native.Nat.{ℕ, _+_, _/_, _%_}
-use mathlib.Core.Bool.{Bool, true, cond, _&&_, _||_, not}
+use mathlib.Core.Bool.{Bool, cond, _&&_, _||_, not}
 use lib.Dec.{eqb, ltb}
 use Rattle.counter.specs.Count.{valueOf}
 use Rattle.tia.specs.declared.object.Moved.{Moved}
@@ -56,17 +56,26 @@ slotPassed k o =
       live = o .live && not (k .comparing && (equalSlot k o || eqb (k .slot) lastSlot));
     }
 
+-- 5. An object is pulsed if the clock is not blank or it has an extra pulse; never twice (004).
+abbrev pub isPulsed : Tick → Object → Bool
+isPulsed k o = not (k .blank) || extraPulse k o
+
 -- 6. On a pulse the position rises by one, 159 going to 0, and age rises by one, stopping at 64. If the position so
 -- reached is a start, age becomes 0.
-abbrev pub reached : ℕ → ℕ
-reached p = (p + 1) % columns
+abbrev pub reached : Bool → ℕ → ℕ
+reached pulse p = cond pulse ((p + 1) % columns) p
 
 abbrev pub older : ℕ → ℕ
 older age = cond (ltb age notDrawn) (age + 1) notDrawn
 
-abbrev pub pulsed : Bool → Object → Object
-pulsed start o =
-    record { position = reached (o .position); age = cond start 0 (older (o .age)); motion = o .motion; live = o .live }
+abbrev pub pulsedIf : (pulse start : Bool) → Object → Object
+pulsedIf pulse start o =
+    record {
+      position = reached pulse (o .position);
+      age = cond start 0 (cond pulse (older (o .age)) (o .age));
+      motion = o .motion;
+      live = o .live;
+    }
 
 -- Starts: 0 always; for players and missiles also 16 when copies are 1 or 3, 32 when 2, 3 or 6, 64 when 4 or 6 (000).
 abbrev pub starts : ℕ → ℕ → Bool
@@ -80,34 +89,18 @@ starts copies p =
 unfoldable pub sizeOf : ℕ → ℕ
 sizeOf copies = cond (eqb copies 5) 2 (cond (eqb copies 7) 4 1)
 
--- 7. A position strobe makes the position 0.
-abbrev pub strobed : Object → Object
-strobed o = record { position = 0; age = o .age; motion = o .motion; live = o .live }
+-- 7. A position strobe this clock makes the position 0, pulse or not, and there is no start; age still follows the pulse.
+abbrev pub strobedIf : Bool → Object → Object
+strobedIf strobe o = record { position = cond strobe 0 (o .position); age = o .age; motion = o .motion; live = o .live }
 
--- One of two objects, field by field.
-abbrev pub eitherObject : Bool → Object → Object → Object
-eitherObject b x y =
-    record {
-      position = cond b (x .position) (y .position);
-      age = cond b (x .age) (y .age);
-      motion = cond b (x .motion) (y .motion);
-      live = cond b (x .live) (y .live);
-    }
-
--- 5. An object is pulsed if the clock is not blank or it has an extra pulse; never twice (004).
-abbrev pub isPulsed : Tick → Object → Bool
-isPulsed k o = not (k .blank) || extraPulse k o
-
--- 7. A position strobe this clock: pulse or not, and there is no start; age still follows the pulse.
 abbrev pub isStarted : Tick → Bool → ℕ → Object → Bool
-isStarted k strobe copies o = isPulsed k o && (not strobe && starts copies (reached (o .position)))
+isStarted k strobe copies o = isPulsed k o && (not strobe && starts copies (reached (isPulsed k o) (o .position)))
 
 -- 4 to 7, for an object after the write.
 unfoldable pub objectMoved : Tick → Bool → ℕ → Object → Moved
 objectMoved k strobe copies o =
-    let slotted = slotPassed k o in
-    let moved = eitherObject (isPulsed k o) (pulsed (isStarted k strobe copies o) slotted) slotted in
-    record { object = eitherObject strobe (strobed moved) moved; pulsed = isPulsed k o; started = isStarted k strobe copies o }
+    let start = isStarted k strobe copies o in
+    record { object = strobedIf strobe (pulsedIf (isPulsed k o) start (slotPassed k o)); started = start }
 
 -- 2 and 4 to 7: an object's part of a clock, by the addresses of its strobe and its motion register.
 unfoldable pub objectAfter : Tick → (strobe hm copies : ℕ) → Write → Object → Moved
@@ -119,6 +112,7 @@ playerAfter k strobe hm copies w p =
     let moved = objectAfter k strobe hm copies w (p .body) in
     record { body = moved .object; size = cond (moved .started) (sizeOf copies) (p .size) }
 
+-- A missile is an object and nothing more.
 unfoldable pub missileAfter : Tick → (strobe hm copies : ℕ) → Write → Object → Object
 missileAfter k strobe hm copies w o = objectAfter k strobe hm copies w o .object
 

@@ -104,21 +104,21 @@ startRegisters =
 abbrev pub noLatches : Latches
 noLatches =
     record {
-      «m0_p1» = false;
-      «m0_p0» = false;
-      «m1_p0» = false;
-      «m1_p1» = false;
-      «p0_pf» = false;
-      «p0_bl» = false;
-      «p1_pf» = false;
-      «p1_bl» = false;
-      «m0_pf» = false;
-      «m0_bl» = false;
-      «m1_pf» = false;
-      «m1_bl» = false;
-      «bl_pf» = false;
-      «p0_p1» = false;
-      «m0_m1» = false;
+      m0p1 = false;
+      m0p0 = false;
+      m1p0 = false;
+      m1p1 = false;
+      p0pf = false;
+      p0bl = false;
+      p1pf = false;
+      p1bl = false;
+      m0pf = false;
+      m0bl = false;
+      m1pf = false;
+      m1bl = false;
+      blpf = false;
+      p0p1 = false;
+      m0m1 = false;
     }
 
 unfoldable pub startState : State

@@ -1,7 +1,8 @@
 // The fifteen collision latches (step 10) and their read-out.
+ghost use mathlib.Core.Bool.{_||_};
 ghost use mathlib.Core.Path.{_≡_};
 ghost use Rattle.tia.specs.State.{noLatches};
-ghost use Rattle.tia.specs.Latches.{pairsOf, latchesWritten, latchesAfter, joinedLatches, readOutByte, readOut};
+ghost use Rattle.tia.specs.Latches.{pairsOf, latchesWritten, latchesAfter, eachLatch, readOutByte, readOut};
 use crate::lit::Lit;
 use crate::lit::weight;
 use crate::write::CXCLR;
@@ -9,21 +10,21 @@ use crate::write::Write;
 
 // A latch for each pair of objects, in the order of the read-out.
 pub struct Latches {
-    pub m0_p1: bool,
-    pub m0_p0: bool,
-    pub m1_p0: bool,
-    pub m1_p1: bool,
-    pub p0_pf: bool,
-    pub p0_bl: bool,
-    pub p1_pf: bool,
-    pub p1_bl: bool,
-    pub m0_pf: bool,
-    pub m0_bl: bool,
-    pub m1_pf: bool,
-    pub m1_bl: bool,
-    pub bl_pf: bool,
-    pub p0_p1: bool,
-    pub m0_m1: bool,
+    pub m0p1: bool,
+    pub m0p0: bool,
+    pub m1p0: bool,
+    pub m1p1: bool,
+    pub p0pf: bool,
+    pub p0bl: bool,
+    pub p1pf: bool,
+    pub p1bl: bool,
+    pub m0pf: bool,
+    pub m0bl: bool,
+    pub m1pf: bool,
+    pub m1bl: bool,
+    pub blpf: bool,
+    pub p0p1: bool,
+    pub m0m1: bool,
 }
 
 impl Latches {
@@ -32,21 +33,21 @@ impl Latches {
         ensures { λ r. ⌜ r ≡ noLatches ⌝ }
     {
         Self {
-            m0_p1: false,
-            m0_p0: false,
-            m1_p0: false,
-            m1_p1: false,
-            p0_pf: false,
-            p0_bl: false,
-            p1_pf: false,
-            p1_bl: false,
-            m0_pf: false,
-            m0_bl: false,
-            m1_pf: false,
-            m1_bl: false,
-            bl_pf: false,
-            p0_p1: false,
-            m0_m1: false,
+            m0p1: false,
+            m0p0: false,
+            m1p0: false,
+            m1p1: false,
+            p0pf: false,
+            p0bl: false,
+            p1pf: false,
+            p1bl: false,
+            m0pf: false,
+            m0bl: false,
+            m1pf: false,
+            m1bl: false,
+            blpf: false,
+            p0p1: false,
+            m0m1: false,
         }
     }
 
@@ -74,24 +75,24 @@ impl Latches {
 
     // The latches set in either.
     fn joined(self, pairs: Latches) -> Self
-        ensures { λ r. ⌜ r ≡ joinedLatches self pairs ⌝ }
+        ensures { λ r. ⌜ r ≡ eachLatch _||_ self pairs ⌝ }
     {
         Self {
-            m0_p1: self.m0_p1 | pairs.m0_p1,
-            m0_p0: self.m0_p0 | pairs.m0_p0,
-            m1_p0: self.m1_p0 | pairs.m1_p0,
-            m1_p1: self.m1_p1 | pairs.m1_p1,
-            p0_pf: self.p0_pf | pairs.p0_pf,
-            p0_bl: self.p0_bl | pairs.p0_bl,
-            p1_pf: self.p1_pf | pairs.p1_pf,
-            p1_bl: self.p1_bl | pairs.p1_bl,
-            m0_pf: self.m0_pf | pairs.m0_pf,
-            m0_bl: self.m0_bl | pairs.m0_bl,
-            m1_pf: self.m1_pf | pairs.m1_pf,
-            m1_bl: self.m1_bl | pairs.m1_bl,
-            bl_pf: self.bl_pf | pairs.bl_pf,
-            p0_p1: self.p0_p1 | pairs.p0_p1,
-            m0_m1: self.m0_m1 | pairs.m0_m1,
+            m0p1: self.m0p1 | pairs.m0p1,
+            m0p0: self.m0p0 | pairs.m0p0,
+            m1p0: self.m1p0 | pairs.m1p0,
+            m1p1: self.m1p1 | pairs.m1p1,
+            p0pf: self.p0pf | pairs.p0pf,
+            p0bl: self.p0bl | pairs.p0bl,
+            p1pf: self.p1pf | pairs.p1pf,
+            p1bl: self.p1bl | pairs.p1bl,
+            m0pf: self.m0pf | pairs.m0pf,
+            m0bl: self.m0bl | pairs.m0bl,
+            m1pf: self.m1pf | pairs.m1pf,
+            m1bl: self.m1bl | pairs.m1bl,
+            blpf: self.blpf | pairs.blpf,
+            p0p1: self.p0p1 | pairs.p0p1,
+            m0m1: self.m0m1 | pairs.m0m1,
         }
     }
 
@@ -100,14 +101,14 @@ impl Latches {
         ensures { λ r. ⌜ r ≡ readOut self ⌝ }
     {
         [
-            read_out_byte(self.m0_p1, self.m0_p0),
-            read_out_byte(self.m1_p0, self.m1_p1),
-            read_out_byte(self.p0_pf, self.p0_bl),
-            read_out_byte(self.p1_pf, self.p1_bl),
-            read_out_byte(self.m0_pf, self.m0_bl),
-            read_out_byte(self.m1_pf, self.m1_bl),
-            read_out_byte(self.bl_pf, false),
-            read_out_byte(self.p0_p1, self.m0_m1),
+            read_out_byte(self.m0p1, self.m0p0),
+            read_out_byte(self.m1p0, self.m1p1),
+            read_out_byte(self.p0pf, self.p0bl),
+            read_out_byte(self.p1pf, self.p1bl),
+            read_out_byte(self.m0pf, self.m0bl),
+            read_out_byte(self.m1pf, self.m1bl),
+            read_out_byte(self.blpf, false),
+            read_out_byte(self.p0p1, self.m0m1),
         ]
     }
 }
@@ -131,21 +132,21 @@ impl Lit {
         let bl = self.bl;
         let pf = self.pf;
         Latches {
-            m0_p1: m0 & p1,
-            m0_p0: m0 & p0,
-            m1_p0: m1 & p0,
-            m1_p1: m1 & p1,
-            p0_pf: p0 & pf,
-            p0_bl: p0 & bl,
-            p1_pf: p1 & pf,
-            p1_bl: p1 & bl,
-            m0_pf: m0 & pf,
-            m0_bl: m0 & bl,
-            m1_pf: m1 & pf,
-            m1_bl: m1 & bl,
-            bl_pf: bl & pf,
-            p0_p1: p0 & p1,
-            m0_m1: m0 & m1,
+            m0p1: m0 & p1,
+            m0p0: m0 & p0,
+            m1p0: m1 & p0,
+            m1p1: m1 & p1,
+            p0pf: p0 & pf,
+            p0bl: p0 & bl,
+            p1pf: p1 & pf,
+            p1bl: p1 & bl,
+            m0pf: m0 & pf,
+            m0bl: m0 & bl,
+            m1pf: m1 & pf,
+            m1bl: m1 & bl,
+            blpf: bl & pf,
+            p0p1: p0 & p1,
+            m0m1: m0 & m1,
         }
     }
 }

@@ -1,6 +1,7 @@
 // A movable object: its position, age and motion, and what a clock does to them.
+ghost use mathlib.Core.Bool.{cond, _||_};
 ghost use mathlib.Core.Path.{_≡_};
-ghost use Rattle.tia.specs.Object.{reached, older, starts, sizeOf, compareValue, equalSlot, extraPulse, objectWritten, slotPassed, pulsed, strobed, eitherObject, objectMoved, objectAfter, playerAfter, missileAfter, ballAfter};
+ghost use Rattle.tia.specs.Object.{reached, older, starts, sizeOf, compareValue, equalSlot, extraPulse, objectWritten, slotPassed, pulsedIf, strobedIf, objectMoved, objectAfter, playerAfter, missileAfter, ballAfter};
 use crate::choose::byte;
 use crate::timing::Tick;
 use crate::write::HMBL;
@@ -32,25 +33,35 @@ pub struct Player {
     pub size: u8,
 }
 
-// An object after a clock, whether it was pulsed, and whether a copy started.
+// An object after a clock, and whether a copy started.
 pub(crate) struct Moved {
     pub(crate) object: Object,
-    pub(crate) pulsed: bool,
     pub(crate) started: bool,
 }
 
-// The position one pulse on.
-fn next_position(position: u8) -> u8
-    ensures { λ r. ⌜ r ≡ reached position ⌝ }
+// The position after a visible pulse, an extra one or both: one on; without a pulse it stays.
+fn next_position(position: u8, visible: bool, extra: bool) -> u8
+    ensures { λ r. ⌜ r ≡ reached (visible || extra) position ⌝ }
 {
-    (position % COLUMNS + 1) % COLUMNS
+    if visible | extra {
+        (position % COLUMNS + 1) % COLUMNS
+    } else {
+        position
+    }
 }
 
-// The age one pulse on.
-fn next_age(age: u8) -> u8
-    ensures { λ r. ⌜ r ≡ older age ⌝ }
+// The age after a pulse: 0 at a start, else one on, stopping at 64.
+fn next_age(age: u8, pulse: bool, start: bool) -> u8
+    ensures { λ r. ⌜ r ≡ cond start 0 (cond pulse (older age) age) ⌝ }
 {
-    if age < NOT_DRAWN { age + 1 } else { NOT_DRAWN }
+    if start {
+        return 0;
+    }
+    if pulse {
+        if age < NOT_DRAWN { age + 1 } else { NOT_DRAWN }
+    } else {
+        age
+    }
 }
 
 // Whether a copy starts at a position.
@@ -81,13 +92,6 @@ fn compare_value(motion: u8) -> u8
     ensures { λ r. ⌜ r ≡ compareValue motion ⌝ }
 {
     (motion % 16 + 8) % 16
-}
-
-// One of two objects.
-fn either(condition: bool, one: Object, other: Object) -> Object
-    ensures { λ r. ⌜ r ≡ eitherObject condition one other ⌝ }
-{
-    if condition { one } else { other }
 }
 
 impl Object {
@@ -128,23 +132,23 @@ impl Object {
         }
     }
 
-    // Step 6: the position rises by one; so does the age, or it is 0 at a start.
-    pub(crate) fn pulse(self, start: bool) -> Self
-        ensures { λ r. ⌜ r ≡ pulsed start self ⌝ }
+    // Steps 5 and 6: on a pulse, visible or extra, the position and the age rise by one; at a start the age is 0.
+    pub(crate) fn pulse(self, visible: bool, extra: bool, start: bool) -> Self
+        ensures { λ r. ⌜ r ≡ pulsedIf (visible || extra) start self ⌝ }
     {
         Self {
-            position: next_position(self.position),
-            age: byte(start, 0, next_age(self.age)),
+            position: next_position(self.position, visible, extra),
+            age: next_age(self.age, visible | extra, start),
             ..self
         }
     }
 
-    // Step 7: the position is 0.
-    pub(crate) fn strobe(self) -> Self
-        ensures { λ r. ⌜ r ≡ strobed self ⌝ }
+    // Step 7: at a strobe the position is 0.
+    pub(crate) fn strobe(self, strobe: bool) -> Self
+        ensures { λ r. ⌜ r ≡ strobedIf strobe self ⌝ }
     {
         Self {
-            position: 0,
+            position: byte(strobe, 0, self.position),
             ..self
         }
     }
@@ -153,16 +157,14 @@ impl Object {
     fn moved(self, tick: Tick, strobe: bool, copies: u8) -> Moved
         ensures { λ r. ⌜ r ≡ objectMoved tick strobe copies self ⌝ }
     {
-        let pulsed = !tick.blank | self.extra(tick);
-        let start = start_at(copies, next_position(self.position));
-        let started = pulsed & (!strobe & start);
-        let slotted = self.slot(tick);
-        let moved = either(pulsed, slotted.pulse(started), slotted);
-        Moved {
-            object: either(strobe, moved.strobe(), moved),
-            pulsed,
-            started,
-        }
+        let visible = !tick.blank;
+        let extra = self.extra(tick);
+        let start = start_at(copies, next_position(self.position, visible, extra));
+        let started = (visible | extra) & (!strobe & start);
+        let object = self.slot(tick)
+            .pulse(visible, extra, started)
+            .strobe(strobe);
+        Moved { object, started }
     }
 
     // Steps 2 and 4 to 7: the object's part of a clock.

@@ -5,11 +5,7 @@ use Rattle.tia.proofs.object.Object.ball.Tie as tie
 
 returns : tie.Need-returns
 unfolding ballAfter
-returns c = rw (
-  c .byte .ensures,
-  c .before .hits .ensures,
-  c .before .before .before .clocked .ensures,
-)
+returns c = cc
 
 pub ball-spec : {M : Type 1} → statement M
 ball-spec = tie.close (tie.spec (λ c κs. tt) (λ c κs. tt) (λ c κs. tt) returns)

@@ -9,10 +9,7 @@ lit-requires c κs = search needs
 
 returns : tie.Need-returns
 unfolding ballLit
-returns c = rw (
-  c .lit .ensures,
-  c .before .flag .ensures,
-)
+returns c = cc
 
 pub ball-lit-spec : {M : Type 1} → statement M
 ball-lit-spec = tie.close (tie.spec (λ c κs. tt) lit-requires returns)

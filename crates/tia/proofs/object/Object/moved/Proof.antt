@@ -6,22 +6,18 @@ use Rattle.tia.proofs.object.Object.moved.Tie as tie
 returns : tie.Need-returns
 unfolding objectMoved
 returns c = rw (
-  c .either2 .ensures,
-  c .before .strobe .ensures,
-  c .before .before .either .ensures,
-  c .before .before .before .pulse .ensures,
-  c .before .before .before .before .slot .ensures,
-  c .before .before .before .before .before .start-at .ensures,
-  c .before .before .before .before .before .before .next-position .ensures,
-  c .before .before .before .before .before .before .before .extra .ensures,
+  c .strobe .ensures,
+  c .before .pulse .ensures,
+  c .before .before .slot .ensures,
+  c .before .before .before .start-at .ensures,
+  c .before .before .before .before .next-position .ensures,
+  c .before .before .before .before .before .extra .ensures,
 )
 
 pub moved-spec : {M : Type 1} → statement M
 moved-spec =
     tie.close
     (tie.spec
-    (λ c κs. tt)
-    (λ c κs. tt)
     (λ c κs. tt)
     (λ c κs. tt)
     (λ c κs. tt)

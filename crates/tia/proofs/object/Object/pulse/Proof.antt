@@ -3,11 +3,7 @@ use Rattle.tia.proofs.object.Object.pulse.Statement.{statement}
 use Rattle.tia.proofs.object.Object.pulse.Tie as tie
 
 returns : tie.Need-returns
-returns c = rw (
-  c .byte .ensures,
-  c .before .next-age .ensures,
-  c .before .before .next-position .ensures,
-)
+returns c = cc
 
 pub pulse-spec : {M : Type 1} → statement M
-pulse-spec = tie.close (tie.spec (λ c κs. tt) (λ c κs. tt) (λ c κs. tt) returns)
+pulse-spec = tie.close (tie.spec (λ c κs. tt) (λ c κs. tt) returns)

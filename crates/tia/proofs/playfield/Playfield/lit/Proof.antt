@@ -15,11 +15,7 @@ shown-requires c κs = search needs
 
 returns : tie.Need-returns
 unfolding playfieldLit
-returns c = rw (
-  c .shown .ensures,
-  c .before .index .ensures .0,
-  c .before .before .bit .ensures,
-)
+returns c = cc
 
 pub lit-spec : {M : Type 1} → statement M
 lit-spec = tie.close (tie.spec bit-requires index-requires shown-requires returns)

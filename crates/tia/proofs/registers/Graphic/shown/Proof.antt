@@ -12,7 +12,7 @@ bit-requires : tie.Need-bit-requires
 bit-requires c κs = rw (c .byte2 .ensures) (either-below (c .before .before .args .self .reflected) (omega arith) (omega arith))
 
 returns : tie.Need-returns
-returns c = rw (c .bit .ensures, c .before .byte2 .ensures, c .before .before .byte .ensures)
+returns c = cc
 
 pub shown-spec : {M : Type 1} → statement M
 shown-spec = tie.close (tie.spec (λ c κs. tt) sub-byte (λ c κs. tt) bit-requires returns)

@@ -5,13 +5,7 @@ use Rattle.tia.proofs.state.Objects.in_range.Tie as tie
 
 returns : tie.Need-returns
 unfolding objectsInRange
-returns c = rw (
-  c .in-range5 .ensures,
-  c .before .in-range4 .ensures,
-  c .before .before .in-range3 .ensures,
-  c .before .before .before .in-range2 .ensures,
-  c .before .before .before .before .in-range .ensures,
-)
+returns c = cc
 
 pub in-range-spec : {M : Type 1} → statement M
 in-range-spec =

@@ -5,13 +5,7 @@ use Rattle.tia.proofs.state.State.is_bad.Tie as tie
 
 returns : tie.Need-returns
 unfolding badState inRange liveAtRest
-returns c =
-    rw (
-      c .any-live .ensures,
-      c .before .before .in-range3 .ensures,
-      c .before .before .before .in-range2 .ensures,
-      c .before .before .before .before .in-range .ensures,
-    )
+returns c = cc
 
 pub is-bad-spec : {M : Type 1} → statement M
 is-bad-spec =

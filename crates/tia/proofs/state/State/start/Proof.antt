@@ -5,11 +5,7 @@ use Rattle.tia.proofs.state.State.start.Tie as tie
 
 returns : tie.Need-returns
 unfolding startState
-returns c = rw (
-  c .none .ensures,
-  c .before .start-registers .ensures,
-  c .before .before .start-objects .ensures,
-)
+returns c = cc
 
 pub start-spec : {M : Type 1} → statement M
 start-spec =

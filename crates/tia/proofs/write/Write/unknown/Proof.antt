@@ -12,11 +12,11 @@ enum-known-self c = search needs
 
 returns : tie.Need-returns
 unfolding unknown
-returns c = rw (c .enum-told .given .1)
+returns c = cc
 
 returns-2 : tie.Need-returns-2
 unfolding unknown
-returns-2 c = rw (c .known .ensures, c .before .before .self .given .1)
+returns-2 c = cc
 
 pub unknown-spec : {M : Type 1} → statement M
 unknown-spec = tie.close (tie.spec enum-told enum-known-self (λ c κs. tt) returns returns-2)
