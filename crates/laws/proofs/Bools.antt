@@ -1,5 +1,6 @@
 -- Laws of tests: conjunctions, and a choice between two values.
 use mathlib.Core.Path.{_≡_, refl, sym}
+use Prim.Native.Nat.{ℕ, _<_}
 use mathlib.Core.Bool.{Bool, true, false, cond, _&&_, _||_, true≢false}
 
 -- A conjunction that holds, and its two parts.
@@ -14,15 +15,15 @@ pub and-second : (a b : Bool) → (a && b) ≡ true → b ≡ true
 and-second true b e = e
 and-second false b e = absurd (true≢false (sym e))
 
--- A choice between a value and itself.
-pub cond-same : {A : Type 0} (b : Bool) (x : A) → cond b x x ≡ x
-cond-same true x = refl
-cond-same false x = refl
-
 -- A test that passes at both values passes at the chosen one.
 pub cond-passes : {A : Type 0} (test : A → Bool) (b : Bool) {x y : A} → test x ≡ true → test y ≡ true → test (cond b x y) ≡ true
 cond-passes test true p q = p
 cond-passes test false p q = q
+
+-- One of two numbers below a limit.
+pub cond-below : (b : Bool) {m n limit : ℕ} → m < limit → n < limit → cond b m n < limit
+cond-below true p q = p
+cond-below false p q = q
 
 -- A disjunction that fails, and its two parts.
 pub or-neither : {a b : Bool} → a ≡ false → b ≡ false → (a || b) ≡ false

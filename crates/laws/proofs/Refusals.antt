@@ -1,6 +1,6 @@
 -- A chain of tests gives its refusals as the rows that the tests decide, in their order.
 use mathlib.Core.Path.{_≡_, refl}
-use mathlib.Core.List.{List, [], _∷_}
+use mathlib.Core.List.{List, _∷_}
 use mathlib.Core.Bool.{Bool, true, false, cond}
 use Prim.Native.Nat.{ℕ}
 use Rattle.laws.specs.Refusal.{Row, GivenInOrder}

@@ -3,7 +3,7 @@ use mathlib.Core.Path.{_≡_}
 use mathlib.Core.Bool.{true, false}
 use Rattle.tia.specs.declared.state.State.{State}
 use Rattle.tia.specs.declared.write.Write.{Write}
-use Rattle.tia.specs.Registers.{unknown}
+use Rattle.tia.specs.Write.{unknown}
 use Rattle.tia.specs.State.{badState}
 use Rattle.tia.specs.Clock.{clockOf}
 use Rattle.tia.specs.Answers.{forBadState, forUnknownRegister, refusedClock, givenClock, clockAnswer, refusedReadOut, givenReadOut, readOutAnswer}

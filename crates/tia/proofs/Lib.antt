@@ -4,7 +4,7 @@ pub mod CaseProofs
 pub mod GoodLaws
 pub mod LitLaws
 pub mod MotionLaws
-pub mod RegisterLaws
+pub mod RangeLaws
 pub mod RefusalLaws
 pub mod StateLaws
-pub mod TimingLaws
+pub mod WriteLaws

@@ -1,6 +1,6 @@
 -- When a player is lit, by its age.
 use mathlib.Core.Path.{_≡_}
-use mathlib.Core.Bool.{Bool, true, false, cond}
+use mathlib.Core.Bool.{false}
 use Prim.Native.Nat.{ℕ, _+_, _-_, _*_, _/_, _<_, _≤_}
 use native.Mathlib.Nat.{div-lt-iff-lt-mul}
 use native.Mathlib.Omega.{arith}
@@ -27,8 +27,3 @@ drawn-lit g p from within = rw (le-leb 5 (p .body .age) from, le-leb (p .body .a
 -- .. which is one of its eight.
 pub pixel-below : (a size : ℕ) → a < 8 * size → a / size < 8
 pixel-below a size h = div-lt-iff-lt-mul {k = size} {x = a} {y = 8} (omega arith) .1 h
-
--- One of two numbers below a bound.
-pub either-below : (b : Bool) {m n limit : ℕ} → m < limit → n < limit → cond b m n < limit
-either-below true p q = p
-either-below false p q = q

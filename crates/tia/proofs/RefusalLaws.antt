@@ -1,9 +1,8 @@
 -- The refusals of the public calls are given exactly when their rows of the table hold, in their order.
 use mathlib.Core.Path.{_≡_, refl}
 use mathlib.Core.Logic.{_⊎_}
-use mathlib.Core.List.{List, [], _∷_}
+use mathlib.Core.List.{[], _∷_}
 use mathlib.Core.Bool.{Bool, true, false, cond, not}
-use Prim.Native.Nat.{ℕ}
 use native.Mathlib.Omega.{arith}
 use Rattle.laws.specs.Refusal.{Row, row, GivenInOrder}
 use Rattle.laws.proofs.Decides.{Decides, either, passes, misses}
@@ -12,7 +11,7 @@ use Rattle.tia.specs.declared.clock.Clocked.{Clocked}
 use Rattle.tia.specs.declared.latches.Latches.{Latches}
 use Rattle.tia.specs.declared.state.State.{State}
 use Rattle.tia.specs.declared.write.Write.{Write}
-use Rattle.tia.specs.Registers.{unknown}
+use Rattle.tia.specs.Write.{unknown}
 use Rattle.tia.specs.State.{inRange, liveAtRest, badState}
 use Rattle.tia.specs.Clock.{clockOf}
 use Rattle.tia.specs.Answers.{forBadState, forUnknownRegister, refusedClock, givenClock, clockAnswer, refusedReadOut, givenReadOut, readOutAnswer}

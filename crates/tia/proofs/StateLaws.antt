@@ -1,14 +1,14 @@
--- The state check: what it shows of a good state.
-use mathlib.Core.Path.{_≡_, refl, sym}
-use mathlib.Core.Bool.{Bool, true, false, _&&_, _||_, not, and-true, true≢false}
-use Prim.Native.Nat.{ℕ, _≤_}
-use borrow.Author.Tests.{le-leb, leb-true}
-use lib.Dec.{leb}
+-- The state check: how the code decides it, and what it shows of a good state.
+use mathlib.Core.Path.{_≡_, refl}
+use mathlib.Core.Bool.{Bool, true, false, _&&_, not, and-true, true≢false}
+use Prim.Native.Nat.{_≤_}
+use borrow.Author.Tests.{le-leb, leb-true, eq-eqb, eqb-true}
+use lib.Dec.{eqb, leb}
+use Rattle.laws.proofs.Bools.{and-first, and-second, or-neither, or-first, or-second}
 use Rattle.tia.specs.declared.registers.Graphic.{Graphic}
 use Rattle.tia.specs.declared.registers.Registers.{Registers}
 use Rattle.tia.specs.declared.state.State.{State}
-use Rattle.tia.specs.declared.timing.Timing.{Timing}
-use Rattle.tia.specs.State.{timingInRange, objectsInRange, nusizInRange, playfieldInRange, graphicInRange, registersInRange, inRange, liveAtRest, badState}
+use Rattle.tia.specs.State.{timingInRange, playerInRange, objectsInRange, nusizInRange, playfieldInRange, graphicInRange, registersInRange, inRange, anyLive, liveAtRest, badState, startState}
 
 -- A graphic of bytes is in range.
 graphic-bytes : (g : Graphic) → g .new ≤ 255 → g .old ≤ 255 → graphicInRange g ≡ true
@@ -29,22 +29,38 @@ registers-by-bytes r c p1 p2 n0 o0 n1 o1 =
       and-true,
     )
 
--- What a conjunction shows of its parts, and a failed test "bad" of its two.
-pub and-first : (a b : Bool) → (a && b) ≡ true → a ≡ true
-and-first true b e = refl
-and-first false b e = e
+-- A good state is in range, ..
+pub good-in-range : (s : State) → badState s ≡ false → inRange s ≡ true
+unfolding badState
+good-in-range s good = by-test (inRange s) (or-first (not (inRange s)) (liveAtRest s) good)
+  where
+    by-test : (b : Bool) → not b ≡ false → b ≡ true
+    by-test true e = refl
+    by-test false e = absurd (true≢false e)
 
-pub and-second : (a b : Bool) → (a && b) ≡ true → b ≡ true
-and-second true b e = e
-and-second false b e = absurd (true≢false (sym e))
-
-in-range-of : (a b : Bool) → (not a || b) ≡ false → a ≡ true
-in-range-of true b e = refl
-in-range-of false b e = absurd (true≢false e)
-
--- In a good state h is at most 227 and the slot at most 16.
+-- .. so its h is at most 227 and its slot at most 16, ..
 pub good-timing : (s : State) → badState s ≡ false → (s .timing .h ≤ 227) × (s .timing .slot ≤ 16)
-unfolding badState inRange
+unfolding inRange
 good-timing s good =
-    let t = and-first (timingInRange (s .timing)) _ (in-range-of (inRange s) (liveAtRest s) good) in
+    let t = and-first (timingInRange (s .timing)) _ (good-in-range s good) in
     (leb-true (s .timing .h) 227 (and-first (leb (s .timing .h) 227) _ t), leb-true (s .timing .slot) 16 (and-second (leb (s .timing .h) 227) _ t))
+
+-- .. and with slot 16 it has no live flag.
+pub good-rest : (s : State) → badState s ≡ false → s .timing .slot ≡ 16 → anyLive (s .objects) ≡ false
+unfolding badState liveAtRest
+good-rest s good e = rw (eq-eqb (s .timing .slot) 16 e) at (or-second (not (inRange s)) (liveAtRest s) good)
+
+-- A state with both is good.
+pub good-by : (s : State) → inRange s ≡ true → (s .timing .slot ≡ 16 → anyLive (s .objects) ≡ false) → badState s ≡ false
+unfolding badState liveAtRest
+good-by s in-range rest =
+    or-neither {a = not (inRange s)} {b = liveAtRest s} (rw in-range) (by-test (eqb (s .timing .slot) 16) refl)
+  where
+    by-test : (b : Bool) → eqb (s .timing .slot) 16 ≡ b → (b && anyLive (s .objects)) ≡ false
+    by-test true e = rest (eqb-true (s .timing .slot) 16 e)
+    by-test false e = refl
+
+-- The start state is good.
+pub start-good : badState startState ≡ false
+unfolding badState inRange liveAtRest objectsInRange playerInRange registersInRange playfieldInRange graphicInRange startState
+start-good = refl

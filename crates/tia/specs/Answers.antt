@@ -1,14 +1,14 @@
 -- What each public call answers: the refusals in their order of checks, then the answer.
 use Prim.Native.Nat.{ℕ}
-use mathlib.Core.Bool.{Bool, cond}
+use mathlib.Core.Bool.{cond}
 use lib.ListN.{replicate}
 use Rattle.tia.specs.declared.clock.Clocked.{Clocked}
-use Rattle.tia.specs.declared.clock.ClockAnswer.{ClockAnswer}
-use Rattle.tia.specs.declared.clock.ReadOut.{ReadOut}
+use Rattle.tia.specs.declared.answers.ClockAnswer.{ClockAnswer}
+use Rattle.tia.specs.declared.answers.ReadOut.{ReadOut}
 use Rattle.tia.specs.declared.latches.Latches.{Latches}
 use Rattle.tia.specs.declared.state.State.{State}
 use Rattle.tia.specs.declared.write.Write.{Write}
-use Rattle.tia.specs.Registers.{unknown}
+use Rattle.tia.specs.Write.{unknown}
 use Rattle.tia.specs.State.{badState}
 use Rattle.tia.specs.Latches.{readOut}
 use Rattle.tia.specs.Clock.{clockOf}

@@ -7,7 +7,7 @@ use Rattle.counter.specs.Kind.{Kind, horizontal, position}
 use Rattle.counter.specs.Answers.{Answer, given, stepAnswer, valueAnswer, countAnswer}
 use Rattle.tia.specs.declared.state.State.{State}
 use Rattle.tia.specs.declared.write.Write.the-variants.{Nothing, Register}
-use Rattle.tia.specs.Registers.{HMM0, HMOVE}
+use Rattle.tia.specs.Write.{HMM0, HMOVE}
 use Rattle.tia.specs.State.{startState}
 use Rattle.tia.specs.Timing.{noMotion}
 use Rattle.tia.specs.Clock.{clockOf}

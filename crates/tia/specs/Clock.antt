@@ -1,12 +1,12 @@
 -- One colour clock: its eleven steps, in their order.
-use Prim.Native.Nat.{ℕ}
 use Rattle.tia.specs.declared.clock.Clocked.{Clocked}
 use Rattle.tia.specs.declared.registers.Registers.{Registers}
 use Rattle.tia.specs.declared.state.Objects.{Objects}
 use Rattle.tia.specs.declared.state.State.{State}
 use Rattle.tia.specs.declared.timing.Tick.{Tick}
 use Rattle.tia.specs.declared.write.Write.{Write}
-use Rattle.tia.specs.Registers.{HMM0, HMM1, HMP0, HMP1, RESM0, RESM1, RESP0, RESP1, registersAfter}
+use Rattle.tia.specs.Write.{HMM0, HMM1, HMP0, HMP1, RESM0, RESM1, RESP0, RESP1}
+use Rattle.tia.specs.Registers.{registersAfter}
 use Rattle.tia.specs.Timing.{timingWritten, tickOf, timingAfter}
 use Rattle.tia.specs.Object.{missileAfter, playerAfter, ballAfter}
 use Rattle.tia.specs.Lit.{litOf, answerByte}

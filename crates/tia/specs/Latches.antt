@@ -5,7 +5,7 @@ use mathlib.Core.List.{List, [], _∷_}
 use Rattle.tia.specs.declared.latches.Latches.{Latches}
 use Rattle.tia.specs.declared.lit.Lit.{Lit}
 use Rattle.tia.specs.declared.write.Write.{Write}
-use Rattle.tia.specs.Registers.{CXCLR, hits}
+use Rattle.tia.specs.Write.{CXCLR, hits}
 use Rattle.tia.specs.State.{noLatches}
 
 -- Every pair lit together.

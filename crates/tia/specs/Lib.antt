@@ -1,4 +1,5 @@
 -- The kit's chip, in document 01's order: its registers, its state, one clock; then the answers of the public calls.
+pub mod Write
 pub mod Registers
 pub mod State
 pub mod Timing

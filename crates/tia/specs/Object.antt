@@ -8,7 +8,8 @@ use Rattle.tia.specs.declared.object.Object.{Object}
 use Rattle.tia.specs.declared.object.Player.{Player}
 use Rattle.tia.specs.declared.timing.Tick.{Tick}
 use Rattle.tia.specs.declared.write.Write.{Write}
-use Rattle.tia.specs.Registers.{HMBL, HMCLR, HMOVE, RESBL, hits, byteOf, upper}
+use Rattle.tia.specs.Write.{HMBL, HMCLR, HMOVE, RESBL, hits, byteOf}
+use Rattle.tia.specs.Registers.{upper}
 
 -- Positions run over the 160 columns of a line.
 abbrev pub columns : ℕ

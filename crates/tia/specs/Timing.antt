@@ -5,7 +5,7 @@ use lib.Dec.{eqb, ltb}
 use Rattle.tia.specs.declared.timing.Tick.{Tick}
 use Rattle.tia.specs.declared.timing.Timing.{Timing}
 use Rattle.tia.specs.declared.write.Write.{Write}
-use Rattle.tia.specs.Registers.{HMOVE, hits}
+use Rattle.tia.specs.Write.{HMOVE, hits}
 
 -- A line has 228 clocks; the first 68 are its horizontal blank, 76 after an HMOVE in it.
 abbrev pub lineClocks : ℕ

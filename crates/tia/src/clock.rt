@@ -1,9 +1,7 @@
-// One colour clock, and the collision read-out.
+// One colour clock: its eleven steps.
 ghost use mathlib.Core.Path.{_≡_};
 ghost use Prim.Native.Nat.{_≤_};
 ghost use Rattle.tia.specs.Clock.{objectsAfter, clockOf};
-ghost use Rattle.tia.specs.Answers;
-ghost use Rattle.tia.specs.Answers.{clockAnswer, readOutAnswer};
 use crate::lit::lit_of;
 use crate::registers::Registers;
 use crate::state::Objects;
@@ -19,30 +17,10 @@ use crate::write::RESP0;
 use crate::write::RESP1;
 use crate::write::Write;
 
-// Refusal 1: a bad state. Refusal 7: an unknown register.
-const BAD_STATE: u8 = 1;
-
-const UNKNOWN_REGISTER: u8 = 7;
-
 // The next state and the answer byte of a clock.
 pub(crate) struct Clocked {
     pub(crate) state: State,
     pub(crate) byte: u8,
-}
-
-// The answer of a clock: refusal number (0: accepted), index of the record at fault, next state and answer byte.
-pub struct ClockAnswer {
-    pub number: u8,
-    pub index: u8,
-    pub state: State,
-    pub byte: u8,
-}
-
-// The answer of the read-out: refusal number (0: accepted), index of the record at fault, eight bytes.
-pub struct ReadOut {
-    pub number: u8,
-    pub index: u8,
-    pub bytes: [u8; 8],
 }
 
 impl Objects {
@@ -76,8 +54,10 @@ pub(crate) fn steps(state: State, write: Write) -> Clocked
     let registers = state.registers.written(write);
     let tick = timing.tick(write);
     let objects = state.objects.clocked(tick, registers, write);
-    let lit = lit_of(timing.h, registers, objects);
-    let latches = state.latches.written(write).after(tick.blank, lit);
+    let h = timing.h;
+    let blank = tick.blank;
+    let lit = lit_of(h, registers, objects);
+    let latches = state.latches.written(write).after(blank, lit);
     Clocked {
         state: State {
             timing: timing.after(tick.comparing),
@@ -85,57 +65,6 @@ pub(crate) fn steps(state: State, write: Write) -> Clocked
             registers,
             latches,
         },
-        byte: lit.answer(timing.h, tick.blank),
-    }
-}
-
-// A refused clock: the number, the given state.
-fn refused(number: u8, state: State) -> ClockAnswer
-    ensures { λ r. ⌜ r ≡ Answers.refusedClock number state ⌝ }
-{
-    ClockAnswer {
-        number,
-        index: 0,
-        state,
-        byte: 0,
-    }
-}
-
-// One colour clock: the next state and the answer byte. Refuses a bad state (1), then an unknown register (7).
-pub fn colour_clock(state: State, write: Write) -> ClockAnswer
-    ensures { λ r. ⌜ r ≡ clockAnswer state write ⌝ }
-{
-    if state.is_bad() {
-        return refused(BAD_STATE, state);
-    }
-    if write.unknown() {
-        return refused(UNKNOWN_REGISTER, state);
-    }
-    let clocked = steps(state, write);
-    let next = clocked.state;
-    ClockAnswer {
-        number: 0,
-        index: 0,
-        state: next,
-        byte: clocked.byte,
-    }
-}
-
-// The collision read-out: eight bytes. Refuses a bad state (1).
-pub fn read_out(state: State) -> ReadOut
-    ensures { λ r. ⌜ r ≡ readOutAnswer state ⌝ }
-{
-    if state.is_bad() {
-        return ReadOut {
-            number: BAD_STATE,
-            index: 0,
-            bytes: [0; 8],
-        };
-    }
-    let latches = state.latches;
-    ReadOut {
-        number: 0,
-        index: 0,
-        bytes: latches.bytes(),
+        byte: lit.answer(h, blank),
     }
 }

@@ -1,4 +1,5 @@
 // The kit's TIA: the chip's state, one colour clock, and the collision read-out.
+mod answers;
 mod choose;
 mod clock;
 mod latches;
@@ -10,10 +11,10 @@ mod state;
 mod timing;
 mod write;
 
-pub use clock::ClockAnswer;
-pub use clock::ReadOut;
-pub use clock::colour_clock;
-pub use clock::read_out;
+pub use answers::ClockAnswer;
+pub use answers::ReadOut;
+pub use answers::colour_clock;
+pub use answers::read_out;
 pub use latches::Latches;
 pub use object::Object;
 pub use object::Player;

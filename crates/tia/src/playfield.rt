@@ -65,5 +65,5 @@ fn index(reflected: bool, place: u8) -> u8
     if place < 20 {
         return place;
     }
-    if reflected { 39 - place } else { place - 20 }
+    byte(reflected, 39 - place, place - 20)
 }

@@ -1,8 +1,8 @@
 // A write to a register, and the addresses of the registers.
 ghost use mathlib.Core.Path.{_≡_};
-ghost use Rattle.tia.specs.Registers;
-ghost use Rattle.tia.specs.Registers.{hits, byteOf, unknown};
+ghost use Rattle.tia.specs.Write.{hits, byteOf, known, unknown};
 
+// The addresses of the registers.
 pub(crate) const NUSIZ0: u8 = 0x04;
 
 pub(crate) const NUSIZ1: u8 = 0x05;
@@ -94,14 +94,14 @@ impl Write {
     {
         match self {
             Write::Nothing => false,
-            Write::Register { address, value: _ } => !known(address),
+            Write::Register { address, value: _ } => !is_known(address),
         }
     }
 }
 
 // Whether a register has this address.
-fn known(address: u8) -> bool
-    ensures { λ r. ⌜ r ≡ Registers.known address ⌝ }
+fn is_known(address: u8) -> bool
+    ensures { λ r. ⌜ r ≡ known address ⌝ }
 {
     ((NUSIZ0 <= address) & (address <= NUSIZ1))
         | (((CTRLPF <= address) & (address <= RESBL))

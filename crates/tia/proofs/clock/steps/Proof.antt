@@ -1,6 +1,6 @@
 -- `steps` meets its contract.
 use native.Mathlib.Omega.{arith}
-use Rattle.tia.proofs.TimingLaws.{slot-written}
+use Rattle.tia.proofs.RangeLaws.{slot-written}
 use Rattle.tia.specs.Clock.{clockOf}
 use borrow.Author.Needs.{needs}
 use Rattle.tia.proofs.clock.steps.Statement.{statement}

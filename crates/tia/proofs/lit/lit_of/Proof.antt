@@ -24,7 +24,15 @@ lit-requires-5 c κs = search needs
 
 returns : tie.Need-returns
 unfolding litOf
-returns c = cc
+returns c = rw (
+  c .lit5 .ensures,
+  c .before .column-of .ensures .0,
+  c .before .before .ball-lit .ensures,
+  c .before .before .before .lit4 .ensures,
+  c .before .before .before .before .lit3 .ensures,
+  c .before .before .before .before .before .lit2 .ensures,
+  c .before .before .before .before .before .before .lit .ensures,
+)
 
 pub lit-of-spec : {M : Type 1} → statement M
 lit-of-spec =

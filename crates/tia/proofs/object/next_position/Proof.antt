@@ -11,7 +11,7 @@ returns : tie.Need-returns
 returns c = rw (c .if1 .taken) (omega arith)
 
 returns-2 : tie.Need-returns-2
-returns-2 c = cc
+returns-2 c = rw (c .if1 .left)
 
 pub next-position-spec : {M : Type 1} → statement M
 next-position-spec = tie.close (tie.spec add-result returns returns-2)

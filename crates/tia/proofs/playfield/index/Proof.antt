@@ -1,44 +1,25 @@
 -- `index` meets its contract.
-use Rattle.tia.specs.Playfield.{playfieldIndex}
-use borrow.Author.Tests.{le-leb, le-ltb, lt-leb, lt-ltb}
+use native.Mathlib.Omega.{arith}
 use borrow.Author.Needs.{needs}
+use borrow.Author.Tests.{lt-ltb, le-ltb}
+use Rattle.laws.proofs.Bools.{cond-below}
+use Rattle.tia.specs.Playfield.{playfieldIndex}
 use Rattle.tia.proofs.playfield.index.Statement.{statement}
 use Rattle.tia.proofs.playfield.index.Tie as tie
 
 returns : tie.Need-returns
 unfolding playfieldIndex
-returns c = (
-  simp (
-    lt-ltb _ _ (c .if1 .taken),
-    lt-leb _ _ (c .if1 .taken),
-  ),
-  search needs,
-)
+returns c = (rw (lt-ltb _ _ (c .if1 .taken)), c .if1 .taken)
 
-sub-result : tie.Need-sub-result
-sub-result c = search needs
+sub-byte : tie.Need-sub-byte
+sub-byte c = search needs
 
 returns-2 : tie.Need-returns-2
 unfolding playfieldIndex
 returns-2 c = (
-  simp (
-    (c .if2 .taken),
-    le-leb _ _ (c .before .if1 .left),
-    le-ltb _ _ (c .before .if1 .left),
-  ),
-  search needs,
-)
-
-returns-3 : tie.Need-returns-3
-unfolding playfieldIndex
-returns-3 c = (
-  simp (
-    (c .if2 .left),
-    le-leb _ _ (c .before .if1 .left),
-    le-ltb _ _ (c .before .if1 .left),
-  ),
-  search needs,
+  rw (c .byte .ensures, le-ltb _ _ (c .before .if1 .left)),
+  rw (c .byte .ensures) (cond-below (c .before .before .args .reflected) (omega arith) (omega arith)),
 )
 
 pub index-spec : {M : Type 1} → statement M
-index-spec = tie.close (tie.spec returns sub-result returns-2 returns-3)
+index-spec = tie.close (tie.spec returns sub-byte (λ c κs. tt) returns-2)

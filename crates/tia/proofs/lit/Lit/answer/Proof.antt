@@ -1,6 +1,6 @@
 -- `answer` meets its contract.
 use Rattle.tia.specs.Lit.{answerByte}
-use borrow.Author.Tests.{le-leb, le-ltb, lt-leb, lt-ltb}
+use borrow.Author.Tests.{le-ltb, lt-ltb}
 use Rattle.tia.proofs.lit.Lit.answer.Statement.{statement}
 use Rattle.tia.proofs.lit.Lit.answer.Tie as tie
 
@@ -8,14 +8,12 @@ returns : tie.Need-returns
 unfolding answerByte
 returns c = simp (
   lt-ltb _ _ (c .if1 .taken),
-  lt-leb _ _ (c .if1 .taken),
 )
 
 returns-2 : tie.Need-returns-2
 unfolding answerByte
 returns-2 c = simp (
-  (c .if2 .taken),
-  le-leb _ _ (c .before .if1 .left),
+  c .if2 .taken,
   le-ltb _ _ (c .before .if1 .left),
 )
 
@@ -23,8 +21,7 @@ returns-3 : tie.Need-returns-3
 unfolding answerByte
 returns-3 c = simp (
   c .bits .ensures,
-  (c .before .if2 .left),
-  le-leb _ _ (c .before .before .if1 .left),
+  c .before .if2 .left,
   le-ltb _ _ (c .before .before .if1 .left),
 )
 

@@ -21,7 +21,14 @@ add-result-5 c = search needs
 
 returns : tie.Need-returns
 unfolding litBits
-returns c = cc
+returns c = rw (
+  c .weight6 .ensures .0,
+  c .before .weight5 .ensures .0,
+  c .before .before .weight4 .ensures .0,
+  c .before .before .before .weight3 .ensures .0,
+  c .before .before .before .before .weight2 .ensures .0,
+  c .before .before .before .before .before .weight .ensures .0,
+)
 
 pub bits-spec : {M : Type 1} → statement M
 bits-spec =

@@ -9,7 +9,10 @@ lit-requires c κs = search needs
 
 returns : tie.Need-returns
 unfolding ballLit
-returns c = cc
+returns c = rw (
+  c .lit .ensures,
+  c .before .flag .ensures,
+)
 
 pub ball-lit-spec : {M : Type 1} → statement M
 ball-lit-spec = tie.close (tie.spec (λ c κs. tt) lit-requires returns)

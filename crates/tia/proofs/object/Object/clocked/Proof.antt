@@ -5,7 +5,11 @@ use Rattle.tia.proofs.object.Object.clocked.Tie as tie
 
 returns : tie.Need-returns
 unfolding objectAfter
-returns c = cc
+returns c = rw (
+  c .moved .ensures,
+  c .before .hits .ensures,
+  c .before .before .written .ensures,
+)
 
 pub clocked-spec : {M : Type 1} → statement M
 clocked-spec = tie.close (tie.spec (λ c κs. tt) (λ c κs. tt) (λ c κs. tt) returns)

@@ -9,7 +9,7 @@ add-result c = search needs
 
 returns : tie.Need-returns
 unfolding missileLit
-returns c = cc
+returns c = rw (c .width-of .ensures .0)
 
 pub lit-spec : {M : Type 1} → statement M
 lit-spec = tie.close (tie.spec (λ c κs. tt) add-result returns)

@@ -5,7 +5,7 @@ use Rattle.tia.proofs.object.Object.missile.Tie as tie
 
 returns : tie.Need-returns
 unfolding missileAfter
-returns c = cc
+returns c = rw (c .before .clocked .ensures)
 
 pub missile-spec : {M : Type 1} → statement M
 missile-spec = tie.close (tie.spec (λ c κs. tt) returns)

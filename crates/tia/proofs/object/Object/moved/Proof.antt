@@ -5,14 +5,16 @@ use Rattle.tia.proofs.object.Object.moved.Tie as tie
 
 returns : tie.Need-returns
 unfolding objectMoved
-returns c = rw (
-  c .strobe .ensures,
-  c .before .pulse .ensures,
-  c .before .before .slot .ensures,
-  c .before .before .before .start-at .ensures,
-  c .before .before .before .before .next-position .ensures,
-  c .before .before .before .before .before .extra .ensures,
-)
+returns c =
+    let pulsed = c .before in
+    rw (
+      c .strobe .ensures,
+      pulsed .pulse .ensures,
+      pulsed .before .slot .ensures,
+      pulsed .before .before .start-at .ensures,
+      pulsed .before .before .before .next-position .ensures,
+      pulsed .before .before .before .before .extra .ensures,
+    )
 
 pub moved-spec : {M : Type 1} → statement M
 moved-spec =

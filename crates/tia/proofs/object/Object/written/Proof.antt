@@ -3,7 +3,14 @@ use Rattle.tia.proofs.object.Object.written.Statement.{statement}
 use Rattle.tia.proofs.object.Object.written.Tie as tie
 
 returns : tie.Need-returns
-returns c = cc
+returns c = rw (
+  c .before .hits3 .ensures,
+  c .before .before .byte2 .ensures,
+  c .before .before .before .value .ensures,
+  c .before .before .before .before .hits2 .ensures,
+  c .before .before .before .before .before .byte .ensures,
+  c .before .before .before .before .before .before .hits .ensures,
+)
 
 pub written-spec : {M : Type 1} → statement M
 written-spec =

@@ -5,7 +5,11 @@ use Rattle.tia.proofs.object.Player.clocked.Tie as tie
 
 returns : tie.Need-returns
 unfolding playerAfter
-returns c = cc
+returns c = rw (
+  c .byte .ensures,
+  c .before .size-of .ensures,
+  c .before .before .before .clocked .ensures,
+)
 
 pub clocked-spec : {M : Type 1} → statement M
 clocked-spec = tie.close (tie.spec (λ c κs. tt) (λ c κs. tt) (λ c κs. tt) returns)

@@ -5,7 +5,7 @@ use Rattle.tia.proofs.object.Player.in_range.Tie as tie
 
 returns : tie.Need-returns
 unfolding playerInRange
-returns c = cc
+returns c = rw (c .in-range .ensures)
 
 pub in-range-spec : {M : Type 1} → statement M
 in-range-spec = tie.close (tie.spec (λ c κs. tt) returns)

@@ -15,7 +15,11 @@ shown-requires c κs = search needs
 
 returns : tie.Need-returns
 unfolding playfieldLit
-returns c = cc
+returns c = rw (
+  c .shown .ensures,
+  c .before .index .ensures .0,
+  c .before .before .bit .ensures,
+)
 
 pub lit-spec : {M : Type 1} → statement M
 lit-spec = tie.close (tie.spec bit-requires index-requires shown-requires returns)

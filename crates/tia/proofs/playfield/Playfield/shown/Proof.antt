@@ -1,6 +1,6 @@
 -- `shown` meets its contract.
 use Rattle.tia.specs.Playfield.{playfieldBit}
-use borrow.Author.Tests.{le-leb, le-ltb, lt-leb, lt-ltb}
+use borrow.Author.Tests.{le-ltb, lt-ltb}
 use borrow.Author.Needs.{needs}
 use Rattle.tia.proofs.playfield.Playfield.shown.Statement.{statement}
 use Rattle.tia.proofs.playfield.Playfield.shown.Tie as tie
@@ -13,7 +13,6 @@ unfolding playfieldBit
 returns c = simp (
   c .bit .ensures,
   lt-ltb _ _ (c .before .if1 .taken),
-  lt-leb _ _ (c .before .if1 .taken),
 )
 
 sub-bit : tie.Need-sub-bit
@@ -27,8 +26,6 @@ unfolding playfieldBit
 returns-2 c = simp (
   c .bit2 .ensures,
   lt-ltb _ _ (c .before .if2 .taken),
-  lt-leb _ _ (c .before .if2 .taken),
-  le-leb _ _ (c .before .before .if1 .left),
   le-ltb _ _ (c .before .before .if1 .left),
 )
 
@@ -39,9 +36,7 @@ returns-3 : tie.Need-returns-3
 unfolding playfieldBit
 returns-3 c = simp (
   c .bit3 .ensures,
-  le-leb _ _ (c .before .if2 .left),
   le-ltb _ _ (c .before .if2 .left),
-  le-leb _ _ (c .before .before .if1 .left),
   le-ltb _ _ (c .before .before .if1 .left),
 )
 

@@ -10,7 +10,17 @@ bit-requires-2 : tie.Need-bit-requires-2
 bit-requires-2 c κs = search needs
 
 returns : tie.Need-returns
-returns c = cc
+returns c = rw (
+  c .flag3 .ensures,
+  c .before .bit2 .ensures,
+  c .before .before .hits3 .ensures,
+  c .before .before .before .flag2 .ensures,
+  c .before .before .before .before .hits2 .ensures,
+  c .before .before .before .before .before .flag .ensures,
+  c .before .before .before .before .before .before .bit .ensures,
+  c .before .before .before .before .before .before .before .hits .ensures,
+  c .before .before .before .before .before .before .before .before .value .ensures,
+)
 
 pub written-spec : {M : Type 1} → statement M
 written-spec =

@@ -1,5 +1,5 @@
 -- `shown` meets its contract.
-use Rattle.tia.proofs.LitLaws.{either-below}
+use Rattle.laws.proofs.Bools.{cond-below}
 use native.Mathlib.Omega.{arith}
 use borrow.Author.Needs.{needs}
 use Rattle.tia.proofs.registers.Graphic.shown.Statement.{statement}
@@ -9,10 +9,10 @@ sub-byte : tie.Need-sub-byte
 sub-byte c = search needs
 
 bit-requires : tie.Need-bit-requires
-bit-requires c κs = rw (c .byte2 .ensures) (either-below (c .before .before .args .self .reflected) (omega arith) (omega arith))
+bit-requires c κs = rw (c .byte2 .ensures) (cond-below (c .before .before .args .self .reflected) (omega arith) (omega arith))
 
 returns : tie.Need-returns
-returns c = cc
+returns c = rw (c .bit .ensures, c .before .byte2 .ensures, c .before .before .byte .ensures)
 
 pub shown-spec : {M : Type 1} → statement M
 shown-spec = tie.close (tie.spec (λ c κs. tt) sub-byte (λ c κs. tt) bit-requires returns)

@@ -3,7 +3,12 @@ use Rattle.tia.proofs.registers.Nusiz.written.Statement.{statement}
 use Rattle.tia.proofs.registers.Nusiz.written.Tie as tie
 
 returns : tie.Need-returns
-returns c = cc
+returns c = rw (
+  c .byte2 .ensures,
+  c .before .byte .ensures,
+  c .before .before .value .ensures,
+  c .before .before .before .hits .ensures,
+)
 
 pub written-spec : {M : Type 1} → statement M
 written-spec =

@@ -5,7 +5,13 @@ use Rattle.tia.proofs.state.State.is_bad.Tie as tie
 
 returns : tie.Need-returns
 unfolding badState inRange liveAtRest
-returns c = cc
+returns c =
+    rw (
+      c .any-live .ensures,
+      c .before .before .in-range3 .ensures,
+      c .before .before .before .in-range2 .ensures,
+      c .before .before .before .before .in-range .ensures,
+    )
 
 pub is-bad-spec : {M : Type 1} → statement M
 is-bad-spec =

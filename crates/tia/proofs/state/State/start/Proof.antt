@@ -5,7 +5,11 @@ use Rattle.tia.proofs.state.State.start.Tie as tie
 
 returns : tie.Need-returns
 unfolding startState
-returns c = cc
+returns c = rw (
+  c .none .ensures,
+  c .before .start-registers .ensures,
+  c .before .before .start-objects .ensures,
+)
 
 pub start-spec : {M : Type 1} → statement M
 start-spec =

@@ -10,7 +10,7 @@ add-byte : tie.Need-add-byte
 add-byte c = search needs
 
 returns : tie.Need-returns
-returns c = cc
+returns c = rw (c .byte .ensures)
 
 pub after-spec : {M : Type 1} → statement M
 after-spec = tie.close (tie.spec add-t5 add-byte (λ c κs. tt) returns)

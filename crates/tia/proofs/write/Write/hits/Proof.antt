@@ -13,7 +13,7 @@ returns : tie.Need-returns
 returns c = search needs
 
 returns-2 : tie.Need-returns-2
-returns-2 c = cc
+returns-2 c = rw (c .before .self .given .1)
 
 pub hits-spec : {M : Type 1} → statement M
 hits-spec = tie.close (tie.spec enum-told enum-known-self returns returns-2)

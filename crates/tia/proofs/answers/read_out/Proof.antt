@@ -1,8 +1,8 @@
 -- `read_out` meets its contract.
 use mathlib.Core.Path.{_∙_, sym}
 use Rattle.tia.proofs.AnswerLaws.{read-out-bad, read-out-given}
-use Rattle.tia.proofs.clock.read_out.Statement.{statement}
-use Rattle.tia.proofs.clock.read_out.Tie as tie
+use Rattle.tia.proofs.answers.read_out.Statement.{statement}
+use Rattle.tia.proofs.answers.read_out.Tie as tie
 
 returns : tie.Need-returns
 returns c = sym (read-out-bad _ (sym (c .before .is-bad .ensures) ∙ c .if1 .taken))

@@ -2,8 +2,8 @@
 use mathlib.Core.Path.{_∙_, sym}
 use Rattle.tia.proofs.AnswerLaws.{clock-bad, clock-unknown, clock-given}
 use Rattle.tia.proofs.StateLaws.{good-timing}
-use Rattle.tia.proofs.clock.colour_clock.Statement.{statement}
-use Rattle.tia.proofs.clock.colour_clock.Tie as tie
+use Rattle.tia.proofs.answers.colour_clock.Statement.{statement}
+use Rattle.tia.proofs.answers.colour_clock.Tie as tie
 
 returns : tie.Need-returns
 returns c = c .refused .ensures ∙ sym (clock-bad _ _ (sym (c .before .before .is-bad .ensures) ∙ c .before .if1 .taken))

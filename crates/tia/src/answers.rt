@@ -1,0 +1,77 @@
+// The public calls: one colour clock, and the collision read-out.
+ghost use mathlib.Core.Path.{_≡_};
+ghost use Rattle.tia.specs.Answers.{refusedClock, clockAnswer, readOutAnswer};
+use crate::clock::steps;
+use crate::state::State;
+use crate::write::Write;
+
+// Refusal 1: a bad state. Refusal 7: an unknown register.
+const BAD_STATE: u8 = 1;
+
+const UNKNOWN_REGISTER: u8 = 7;
+
+// The answer of a clock: refusal number (0: accepted), index of the record at fault, next state and answer byte.
+pub struct ClockAnswer {
+    pub number: u8,
+    pub index: u8,
+    pub state: State,
+    pub byte: u8,
+}
+
+// The answer of the read-out: refusal number (0: accepted), index of the record at fault, eight bytes.
+pub struct ReadOut {
+    pub number: u8,
+    pub index: u8,
+    pub bytes: [u8; 8],
+}
+
+// A refused clock: the number, the given state.
+fn refused(number: u8, state: State) -> ClockAnswer
+    ensures { λ r. ⌜ r ≡ refusedClock number state ⌝ }
+{
+    ClockAnswer {
+        number,
+        index: 0,
+        state,
+        byte: 0,
+    }
+}
+
+// One colour clock: the next state and the answer byte. Refuses a bad state (1), then an unknown register (7).
+pub fn colour_clock(state: State, write: Write) -> ClockAnswer
+    ensures { λ r. ⌜ r ≡ clockAnswer state write ⌝ }
+{
+    if state.is_bad() {
+        return refused(BAD_STATE, state);
+    }
+    if write.unknown() {
+        return refused(UNKNOWN_REGISTER, state);
+    }
+    let clocked = steps(state, write);
+    let next = clocked.state;
+    ClockAnswer {
+        number: 0,
+        index: 0,
+        state: next,
+        byte: clocked.byte,
+    }
+}
+
+// The collision read-out: eight bytes. Refuses a bad state (1).
+pub fn read_out(state: State) -> ReadOut
+    ensures { λ r. ⌜ r ≡ readOutAnswer state ⌝ }
+{
+    if state.is_bad() {
+        return ReadOut {
+            number: BAD_STATE,
+            index: 0,
+            bytes: [0; 8],
+        };
+    }
+    let latches = state.latches;
+    ReadOut {
+        number: 0,
+        index: 0,
+        bytes: latches.bytes(),
+    }
+}
