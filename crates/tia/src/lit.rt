@@ -13,10 +13,8 @@ use crate::registers::Registers;
 use crate::state::Objects;
 use crate::timing::BLANK;
 
-// The ages at which a player, and at which a missile or the ball, lights its first column.
+// The age at which a player lights its first column.
 const PLAYER_AGE: u8 = 5;
-
-const MISSILE_AGE: u8 = 4;
 
 // The answer bytes of the horizontal blank and of a blank column.
 const IN_BLANK: u8 = 128;
@@ -34,7 +32,7 @@ pub(crate) struct Lit {
 }
 
 impl Player {
-    // Whether the player is lit.
+    // Whether the player is lit: at ages 5 to 4 + 8 x size, by a bit of its graphic.
     fn lit(self, graphic: Graphic) -> bool
         ensures { λ r. ⌜ r ≡ playerLit graphic self ⌝ }
     {
@@ -64,15 +62,15 @@ impl Graphic {
 }
 
 impl Object {
-    // Whether a missile or the ball is lit.
+    // Whether a missile or the ball is lit: at ages 4 to 3 + width when enabled.
     fn lit(self, enabled: bool, code: u8) -> bool
         ensures { λ r. ⌜ r ≡ missileLit enabled code self ⌝ }
     {
         let age = self.age;
-        enabled & ((MISSILE_AGE <= age) & (age <= 3 + width_of(code)))
+        enabled & ((4 <= age) & (age <= 3 + width_of(code)))
     }
 
-    // Whether the ball is lit.
+    // Whether the ball is lit, by its new enable, or the old with VDELBL.
     fn ball_lit(self, enable: Enable, ctrlpf: u8) -> bool
         ensures { λ r. ⌜ r ≡ ballLit enable ctrlpf self ⌝ }
     {

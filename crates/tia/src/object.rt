@@ -99,9 +99,9 @@ impl Object {
     fn written(self, hm: u8, write: Write) -> Self
         ensures { λ r. ⌜ r ≡ objectWritten hm write self ⌝ }
     {
-        let motion = byte(write.hits(HMCLR), 0, self.motion);
+        let motion = write.byte_at(HMCLR, 0, self.motion);
         Self {
-            motion: byte(write.hits(hm), write.value() / 16 % 16, motion),
+            motion: write.byte_at(hm, write.value() / 16 % 16, motion),
             live: write.hits(HMOVE) | self.live,
             ..self
         }
@@ -190,7 +190,7 @@ impl Object {
         let moved = self.clocked(tick, RESBL, HMBL, 0, write);
         let object = moved.object;
         Self {
-            age: byte(write.hits(RESBL), 0, object.age),
+            age: write.byte_at(RESBL, 0, object.age),
             ..object
         }
     }

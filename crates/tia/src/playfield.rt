@@ -26,10 +26,10 @@ impl Playfield {
     {
         let value = write.value();
         Self {
-            ctrlpf: byte(write.hits(CTRLPF), value, self.ctrlpf),
-            pf0: byte(write.hits(PF0), value / 16 % 16, self.pf0),
-            pf1: byte(write.hits(PF1), value, self.pf1),
-            pf2: byte(write.hits(PF2), value, self.pf2),
+            ctrlpf: write.byte_at(CTRLPF, value, self.ctrlpf),
+            pf0: write.byte_at(PF0, value / 16 % 16, self.pf0),
+            pf1: write.byte_at(PF1, value, self.pf1),
+            pf2: write.byte_at(PF2, value, self.pf2),
         }
     }
 

@@ -2,8 +2,6 @@
 ghost use mathlib.Core.Path.{_≡_};
 ghost use Rattle.tia.specs.Registers.{nusizAfter, graphicAfter, enableAfter, registersAfter};
 use crate::choose::bit;
-use crate::choose::byte;
-use crate::choose::flag;
 use crate::playfield::Playfield;
 use crate::write::ENABL;
 use crate::write::ENAM0;
@@ -30,11 +28,10 @@ impl Nusiz {
     pub(crate) fn written(self, address: u8, write: Write) -> Self
         ensures { λ r. ⌜ r ≡ nusizAfter address write self ⌝ }
     {
-        let hit = write.hits(address);
         let value = write.value();
         Self {
-            copies: byte(hit, value % 8, self.copies),
-            width: byte(hit, value / 16 % 4, self.width),
+            copies: write.byte_at(address, value % 8, self.copies),
+            width: write.byte_at(address, value / 16 % 4, self.width),
         }
     }
 }
@@ -54,10 +51,10 @@ impl Graphic {
     {
         let value = write.value();
         Self {
-            reflected: flag(write.hits(reflect), bit(3, value), self.reflected),
-            new: byte(write.hits(own), value, self.new),
-            old: byte(write.hits(other), self.new, self.old),
-            delayed: flag(write.hits(delay), bit(0, value), self.delayed),
+            reflected: write.flag_at(reflect, bit(3, value), self.reflected),
+            new: write.byte_at(own, value, self.new),
+            old: write.byte_at(other, self.new, self.old),
+            delayed: write.flag_at(delay, bit(0, value), self.delayed),
         }
     }
 }
@@ -76,9 +73,9 @@ impl Enable {
     {
         let value = write.value();
         Self {
-            new: flag(write.hits(ENABL), bit(1, value), self.new),
-            old: flag(write.hits(GRP1), self.new, self.old),
-            delayed: flag(write.hits(VDELBL), bit(0, value), self.delayed),
+            new: write.flag_at(ENABL, bit(1, value), self.new),
+            old: write.flag_at(GRP1, self.new, self.old),
+            delayed: write.flag_at(VDELBL, bit(0, value), self.delayed),
         }
     }
 }
@@ -107,8 +104,8 @@ impl Registers {
             playfield: self.playfield.written(write),
             graphic0: self.graphic0.written(REFP0, GRP0, GRP1, VDELP0, write),
             graphic1: self.graphic1.written(REFP1, GRP1, GRP0, VDELP1, write),
-            enam0: flag(write.hits(ENAM0), enable, self.enam0),
-            enam1: flag(write.hits(ENAM1), enable, self.enam1),
+            enam0: write.flag_at(ENAM0, enable, self.enam0),
+            enam1: write.flag_at(ENAM1, enable, self.enam1),
             enabl: self.enabl.written(write),
         }
     }

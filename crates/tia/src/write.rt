@@ -1,6 +1,8 @@
 // A write to a register, and the addresses of the registers.
+ghost use mathlib.Core.Bool.{cond};
 ghost use mathlib.Core.Path.{_≡_};
 ghost use Rattle.tia.specs.Write.{hits, byteOf, known, unknown};
+use crate::choose;
 
 // The addresses of the registers.
 pub(crate) const NUSIZ0: u8 = 0x04;
@@ -86,6 +88,20 @@ impl Write {
             Write::Nothing => 0,
             Write::Register { address: _, value } => value,
         }
+    }
+
+    // A byte after the write: the new one if this address is written.
+    pub(crate) fn byte_at(self, register: u8, new: u8, old: u8) -> u8
+        ensures { λ r. ⌜ r ≡ cond (hits self register) new old ⌝ }
+    {
+        choose::byte(self.hits(register), new, old)
+    }
+
+    // A flag after the write: the new one if this address is written.
+    pub(crate) fn flag_at(self, register: u8, new: bool, old: bool) -> bool
+        ensures { λ r. ⌜ r ≡ cond (hits self register) new old ⌝ }
+    {
+        choose::flag(self.hits(register), new, old)
     }
 
     // Whether an address is written that no register has.

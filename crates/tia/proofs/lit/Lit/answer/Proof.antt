@@ -6,9 +6,7 @@ use Rattle.tia.proofs.lit.Lit.answer.Tie as tie
 
 returns : tie.Need-returns
 unfolding answerByte
-returns c = simp (
-  lt-ltb _ _ (c .if1 .taken),
-)
+returns c = simp (lt-ltb _ _ (c .if1 .taken))
 
 returns-2 : tie.Need-returns-2
 unfolding answerByte

@@ -6,10 +6,9 @@ use Rattle.tia.proofs.object.Object.ball.Tie as tie
 returns : tie.Need-returns
 unfolding ballAfter
 returns c = rw (
-  c .byte .ensures,
-  c .before .hits .ensures,
-  c .before .before .before .clocked .ensures,
+  c .byte-at .ensures,
+  c .before .before .clocked .ensures,
 )
 
 pub ball-spec : {M : Type 1} → statement M
-ball-spec = tie.close (tie.spec (λ c κs. tt) (λ c κs. tt) (λ c κs. tt) returns)
+ball-spec = tie.close (tie.spec (λ c κs. tt) (λ c κs. tt) returns)

@@ -4,22 +4,12 @@ use Rattle.tia.proofs.object.Object.written.Tie as tie
 
 returns : tie.Need-returns
 returns c = rw (
-  c .before .hits3 .ensures,
-  c .before .before .byte2 .ensures,
+  c .before .hits .ensures,
+  c .before .before .byte-at2 .ensures,
   c .before .before .before .value .ensures,
-  c .before .before .before .before .hits2 .ensures,
-  c .before .before .before .before .before .byte .ensures,
-  c .before .before .before .before .before .before .hits .ensures,
+  c .before .before .before .before .byte-at .ensures,
 )
 
 pub written-spec : {M : Type 1} → statement M
 written-spec =
-    tie.close
-    (tie.spec
-    (λ c κs. tt)
-    (λ c κs. tt)
-    (λ c κs. tt)
-    (λ c κs. tt)
-    (λ c κs. tt)
-    (λ c κs. tt)
-    returns)
+    tie.close (tie.spec (λ c κs. tt) (λ c κs. tt) (λ c κs. tt) (λ c κs. tt) returns)

@@ -11,15 +11,12 @@ bit-requires-2 c κs = search needs
 
 returns : tie.Need-returns
 returns c = rw (
-  c .flag3 .ensures,
+  c .flag-at3 .ensures,
   c .before .bit2 .ensures,
-  c .before .before .hits3 .ensures,
-  c .before .before .before .flag2 .ensures,
-  c .before .before .before .before .hits2 .ensures,
-  c .before .before .before .before .before .flag .ensures,
-  c .before .before .before .before .before .before .bit .ensures,
-  c .before .before .before .before .before .before .before .hits .ensures,
-  c .before .before .before .before .before .before .before .before .value .ensures,
+  c .before .before .flag-at2 .ensures,
+  c .before .before .before .flag-at .ensures,
+  c .before .before .before .before .bit .ensures,
+  c .before .before .before .before .before .value .ensures,
 )
 
 pub written-spec : {M : Type 1} → statement M
@@ -27,10 +24,7 @@ written-spec =
     tie.close
     (tie.spec
     (λ c κs. tt)
-    (λ c κs. tt)
     bit-requires
-    (λ c κs. tt)
-    (λ c κs. tt)
     (λ c κs. tt)
     (λ c κs. tt)
     bit-requires-2

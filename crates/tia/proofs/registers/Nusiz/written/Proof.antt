@@ -4,12 +4,10 @@ use Rattle.tia.proofs.registers.Nusiz.written.Tie as tie
 
 returns : tie.Need-returns
 returns c = rw (
-  c .byte2 .ensures,
-  c .before .byte .ensures,
+  c .byte-at2 .ensures,
+  c .before .byte-at .ensures,
   c .before .before .value .ensures,
-  c .before .before .before .hits .ensures,
 )
 
 pub written-spec : {M : Type 1} → statement M
-written-spec =
-    tie.close (tie.spec (λ c κs. tt) (λ c κs. tt) (λ c κs. tt) (λ c κs. tt) returns)
+written-spec = tie.close (tie.spec (λ c κs. tt) (λ c κs. tt) (λ c κs. tt) returns)

@@ -11,17 +11,15 @@ returns : tie.Need-returns
 unfolding registersAfter
 returns c = rw (
   c .written6 .ensures,
-  c .before .flag2 .ensures,
-  c .before .before .hits2 .ensures,
-  c .before .before .before .flag .ensures,
-  c .before .before .before .before .hits .ensures,
-  c .before .before .before .before .before .written5 .ensures,
-  c .before .before .before .before .before .before .written4 .ensures,
-  c .before .before .before .before .before .before .before .written3 .ensures,
-  c .before .before .before .before .before .before .before .before .written2 .ensures,
-  c .before .before .before .before .before .before .before .before .before .written .ensures,
-  c .before .before .before .before .before .before .before .before .before .before .bit .ensures,
-  c .before .before .before .before .before .before .before .before .before .before .before .value .ensures,
+  c .before .flag-at2 .ensures,
+  c .before .before .flag-at .ensures,
+  c .before .before .before .written5 .ensures,
+  c .before .before .before .before .written4 .ensures,
+  c .before .before .before .before .before .written3 .ensures,
+  c .before .before .before .before .before .before .written2 .ensures,
+  c .before .before .before .before .before .before .before .written .ensures,
+  c .before .before .before .before .before .before .before .before .bit .ensures,
+  c .before .before .before .before .before .before .before .before .before .value .ensures,
 )
 
 pub written-spec : {M : Type 1} → statement M
@@ -30,8 +28,6 @@ written-spec =
     (tie.spec
     (λ c κs. tt)
     bit-requires
-    (λ c κs. tt)
-    (λ c κs. tt)
     (λ c κs. tt)
     (λ c κs. tt)
     (λ c κs. tt)
