@@ -17,7 +17,7 @@ const COLUMNS: u8 = 160;
 const LAST_SLOT: u8 = 15;
 
 // The age when nothing is being drawn.
-const NOT_DRAWN: u8 = 64;
+pub(crate) const NOT_DRAWN: u8 = 64;
 
 // P0, P1, M0, M1 or BL: its position, its age (pulses since its last start), its motion value and live flag.
 pub struct Object {

@@ -2,6 +2,7 @@
 ghost use mathlib.Core.Path.{_≡_};
 ghost use Rattle.tia.specs.State.{objectInRange, playerInRange, objectsInRange, anyLive, timingInRange, nusizInRange, playfieldInRange, registersInRange, badState, startObject, startPlayer, startObjects, startRegisters, startState};
 use crate::latches::Latches;
+use crate::object::NOT_DRAWN;
 use crate::object::Object;
 use crate::object::Player;
 use crate::playfield::Playfield;
@@ -9,6 +10,7 @@ use crate::registers::Enable;
 use crate::registers::Graphic;
 use crate::registers::Nusiz;
 use crate::registers::Registers;
+use crate::timing::NO_MOTION;
 use crate::timing::Timing;
 
 // The five movable objects.
@@ -36,7 +38,7 @@ impl State {
         Self {
             timing: Timing {
                 h: 0,
-                slot: 16,
+                slot: NO_MOTION,
                 late: false,
             },
             objects: start_objects(),
@@ -53,7 +55,7 @@ impl State {
         let objects = self.objects;
         let registers = self.registers;
         let in_range = timing.in_range() & (objects.in_range() & registers.in_range());
-        !in_range | ((timing.slot == 16) & objects.any_live())
+        !in_range | ((timing.slot == NO_MOTION) & objects.any_live())
     }
 }
 
@@ -63,7 +65,7 @@ fn start_objects() -> Objects
 {
     let object = Object {
         position: 0,
-        age: 64,
+        age: NOT_DRAWN,
         motion: 0,
         live: false,
     };

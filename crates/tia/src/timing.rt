@@ -14,7 +14,7 @@ pub(crate) const BLANK: u8 = 68;
 const LATE_BLANK: u8 = 76;
 
 // The motion slot when no motion is under way.
-const NO_MOTION: u8 = 16;
+pub(crate) const NO_MOTION: u8 = 16;
 
 // The line clock h, the motion slot, and the late flag: HMOVE was written in this line's horizontal blank.
 pub struct Timing {
