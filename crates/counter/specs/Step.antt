@@ -1,7 +1,8 @@
 -- The step rule of the six-bit counter, over bit strings.
 use mathlib.Core.Bool.{Bool, Bool·beq, cond, _||_}
-use Prim.Native.Nat.{ℕ, _+_, _/_, _%_, _^_}
+use Prim.Native.Nat.{ℕ, _+_}
 use lib.Dec.{eqb}
+use Rattle.laws.specs.Bits.{bit, weight}
 
 -- A bit string of six, written left to right; the leftmost bit is the highest.
 pub data Bits : Type 0 where
@@ -11,18 +12,11 @@ pub data Bits : Type 0 where
 abbrev pub moved : Bits → Bits
 moved (bits a b c d e f) = bits (Bool·beq e f) a b c d e
 
--- A number's bit of the weight 2 ^ n.
-abbrev pub bit : ℕ → ℕ → Bool
-bit n v = eqb (v / 2 ^ n % 2) 1
-
 -- The six bits of a number.
 abbrev pub bitsOf : ℕ → Bits
 bitsOf v = bits (bit 5 v) (bit 4 v) (bit 3 v) (bit 2 v) (bit 1 v) (bit 0 v)
 
 -- The number of a bit string: the weights of its bits, added.
-abbrev pub weight : Bool → ℕ → ℕ
-weight b n = cond b (2 ^ n) 0
-
 abbrev pub numberOf : Bits → ℕ
 numberOf (bits a b c d e f) = weight a 5 + weight b 4 + weight c 3 + weight d 2 + weight e 1 + weight f 0
 

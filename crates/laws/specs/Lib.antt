@@ -1,3 +1,4 @@
 -- Definitions that belong to no one subject.
+pub mod Bits
 pub mod Refusal
 pub mod Steps

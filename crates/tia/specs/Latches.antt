@@ -2,6 +2,7 @@
 use Prim.Native.Nat.{ℕ, _+_}
 use mathlib.Core.Bool.{Bool, false, cond, _&&_, _||_}
 use mathlib.Core.List.{List, [], _∷_}
+use Rattle.laws.specs.Bits.{weight}
 use Rattle.tia.specs.declared.latches.Latches.{Latches}
 use Rattle.tia.specs.declared.lit.Lit.{Lit}
 use Rattle.tia.specs.declared.write.Write.{Write}
@@ -61,7 +62,7 @@ latchesAfter blank l x = eachLatch (cond blank) x (eachLatch _||_ x (pairsOf l))
 -- Latch read-out, eight bytes, bits 7 and 6: M0-P1 M0-P0; M1-P0 M1-P1; P0-PF P0-BL; P1-PF P1-BL; M0-PF M0-BL;
 -- M1-PF M1-BL; BL-PF and 0; P0-P1 M0-M1. Other bits 0.
 abbrev pub readOutByte : Bool → Bool → ℕ
-readOutByte high low = cond high 128 0 + cond low 64 0
+readOutByte high low = weight high 7 + weight low 6
 
 unfoldable pub readOut : Latches → List ℕ
 readOut x =

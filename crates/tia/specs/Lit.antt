@@ -2,6 +2,7 @@
 use Prim.Native.Nat.{ℕ, _+_, _-_, _*_, _/_, _%_}
 use mathlib.Core.Bool.{Bool, cond, _&&_}
 use lib.Dec.{eqb, ltb, leb}
+use Rattle.laws.specs.Bits.{bit, weight}
 use Rattle.tia.specs.declared.lit.Lit.{Lit}
 use Rattle.tia.specs.declared.object.Object.{Object}
 use Rattle.tia.specs.declared.object.Player.{Player}
@@ -9,7 +10,6 @@ use Rattle.tia.specs.declared.registers.Enable.{Enable}
 use Rattle.tia.specs.declared.registers.Graphic.{Graphic}
 use Rattle.tia.specs.declared.registers.Registers.{Registers}
 use Rattle.tia.specs.declared.state.Objects.{Objects}
-use Rattle.tia.specs.Registers.{bit}
 use Rattle.tia.specs.Timing.{blankClocks}
 use Rattle.tia.specs.Playfield.{playfieldLit}
 
@@ -55,12 +55,9 @@ litOf h r os =
     }
 
 -- 10. The answer byte: 128 for h below 68; 64 for a blank column; otherwise bits 0 to 5 for P0, P1, M0, M1, BL, PF.
-abbrev pub litWeight : Bool → ℕ → ℕ
-litWeight lit w = cond lit w 0
-
 unfoldable pub litBits : Lit → ℕ
 litBits l =
-    litWeight (l .p0) 1 + (litWeight (l .p1) 2 + (litWeight (l .m0) 4 + (litWeight (l .m1) 8 + (litWeight (l .bl) 16 + litWeight (l .pf) 32))))
+    weight (l .p0) 0 + (weight (l .p1) 1 + (weight (l .m0) 2 + (weight (l .m1) 3 + (weight (l .bl) 4 + weight (l .pf) 5))))
 
 unfoldable pub answerByte : ℕ → Bool → Lit → ℕ
 answerByte h blank l = cond (ltb h blankClocks) 128 (cond blank 64 (litBits l))

@@ -2,8 +2,8 @@
 use Prim.Native.Nat.{ℕ, _-_, _/_}
 use mathlib.Core.Bool.{Bool, cond}
 use lib.Dec.{ltb}
+use Rattle.laws.specs.Bits.{bit}
 use Rattle.tia.specs.declared.playfield.Playfield.{Playfield}
-use Rattle.tia.specs.Registers.{bit}
 
 -- 9. Playfield bits 0-19 are PF0 bits 4 to 7 (its half byte's 0 to 3), PF1 bits 7 to 0, PF2 bits 0 to 7; ..
 unfoldable pub playfieldBit : Playfield → ℕ → Bool

@@ -1,7 +1,7 @@
 -- The registers that draw: the bits that they keep of a written byte.
-use Prim.Native.Nat.{ℕ, _/_, _%_, _^_}
-use mathlib.Core.Bool.{Bool, cond}
-use lib.Dec.{eqb}
+use Prim.Native.Nat.{ℕ, _/_, _%_}
+use mathlib.Core.Bool.{cond}
+use Rattle.laws.specs.Bits.{bit}
 use Rattle.tia.specs.declared.playfield.Playfield.{Playfield}
 use Rattle.tia.specs.declared.registers.Enable.{Enable}
 use Rattle.tia.specs.declared.registers.Graphic.{Graphic}
@@ -9,10 +9,6 @@ use Rattle.tia.specs.declared.registers.Nusiz.{Nusiz}
 use Rattle.tia.specs.declared.registers.Registers.{Registers}
 use Rattle.tia.specs.declared.write.Write.{Write}
 use Rattle.tia.specs.Write.{NUSIZ0, NUSIZ1, CTRLPF, REFP0, REFP1, PF0, PF1, PF2, GRP0, GRP1, ENAM0, ENAM1, ENABL, VDELP0, VDELP1, VDELBL, hits, byteOf}
-
--- Bit n of a byte.
-abbrev pub bit : ℕ → ℕ → Bool
-bit n v = eqb (v / 2 ^ n % 2) 1
 
 -- The upper half byte.
 abbrev pub upper : ℕ → ℕ

@@ -2,7 +2,7 @@
 ghost use mathlib.Core.Bool.{cond};
 ghost use mathlib.Core.Path.{_≡_};
 ghost use Prim.Native.Nat.{_<_};
-ghost use Rattle.tia.specs.Registers;
+ghost use Rattle.laws.specs.Bits;
 
 // One of two bytes.
 pub(crate) fn byte(condition: bool, one: u8, other: u8) -> u8
@@ -21,7 +21,7 @@ pub(crate) fn flag(condition: bool, one: bool, other: bool) -> bool
 // Bit n of a byte.
 pub(crate) fn bit(n: u8, value: u8) -> bool
     requires { ⌜ n < 8 ⌝ }
-    ensures { λ r. ⌜ r ≡ Registers.bit n value ⌝ }
+    ensures { λ r. ⌜ r ≡ Bits.bit n value ⌝ }
 {
     (value >> n) % 2 == 1
 }

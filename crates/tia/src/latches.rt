@@ -4,7 +4,7 @@ ghost use mathlib.Core.Path.{_≡_};
 ghost use Rattle.tia.specs.State.{noLatches};
 ghost use Rattle.tia.specs.Latches.{pairsOf, latchesWritten, latchesAfter, eachLatch, readOutByte, readOut};
 use crate::lit::Lit;
-use crate::lit::weight;
+use crate::lit::weight_of;
 use crate::write::CXCLR;
 use crate::write::Write;
 
@@ -117,7 +117,7 @@ impl Latches {
 fn read_out_byte(high: bool, low: bool) -> u8
     ensures { λ r. ⌜ r ≡ readOutByte high low ⌝ }
 {
-    weight(high, 128) + weight(low, 64)
+    weight_of(high, 128) + weight_of(low, 64)
 }
 
 impl Lit {

@@ -1,7 +1,8 @@
 // Which objects a clock lights (steps 8 and 9), and its answer byte (step 10).
+ghost use mathlib.Core.Bool.{cond};
 ghost use mathlib.Core.Path.{_≡_};
 ghost use Prim.Native.Nat.{_≤_, _<_};
-ghost use Rattle.tia.specs.Lit.{widthOf, shownBit, playerLit, missileLit, ballLit, columnOf, litOf, litWeight, litBits, answerByte};
+ghost use Rattle.tia.specs.Lit.{widthOf, shownBit, playerLit, missileLit, ballLit, columnOf, litOf, litBits, answerByte};
 use crate::choose::bit;
 use crate::choose::byte;
 use crate::choose::flag;
@@ -127,10 +128,10 @@ pub(crate) fn lit_of(h: u8, registers: Registers, objects: Objects) -> Lit
 }
 
 // The weight of a lit object's bit; 0 if it is not lit.
-pub(crate) fn weight(lit: bool, bit: u8) -> u8
-    ensures { λ r. ⌜ (r ≡ litWeight lit bit) × (r ≤ bit) ⌝ }
+pub(crate) fn weight_of(lit: bool, weight: u8) -> u8
+    ensures { λ r. ⌜ (r ≡ cond lit weight 0) × (r ≤ weight) ⌝ }
 {
-    if lit { bit } else { 0 }
+    if lit { weight } else { 0 }
 }
 
 impl Lit {
@@ -138,10 +139,10 @@ impl Lit {
     fn bits(self) -> u8
         ensures { λ r. ⌜ r ≡ litBits self ⌝ }
     {
-        weight(self.p0, 1)
-            + (weight(self.p1, 2)
-                + (weight(self.m0, 4)
-                    + (weight(self.m1, 8) + (weight(self.bl, 16) + weight(self.pf, 32)))))
+        weight_of(self.p0, 1)
+            + (weight_of(self.p1, 2)
+                + (weight_of(self.m0, 4)
+                    + (weight_of(self.m1, 8) + (weight_of(self.bl, 16) + weight_of(self.pf, 32)))))
     }
 
     // The answer byte of line clock h.

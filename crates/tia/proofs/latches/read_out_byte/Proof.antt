@@ -7,7 +7,7 @@ add-result : tie.Need-add-result
 add-result c = search needs
 
 returns : tie.Need-returns
-returns c = rw (c .weight2 .ensures .0, c .before .weight .ensures .0)
+returns c = rw (c .weight-of2 .ensures .0, c .before .weight-of .ensures .0)
 
 pub read-out-byte-spec : {M : Type 1} → statement M
 read-out-byte-spec = tie.close (tie.spec (λ c κs. tt) (λ c κs. tt) add-result returns)

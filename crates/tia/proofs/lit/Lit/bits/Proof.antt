@@ -22,12 +22,12 @@ add-result-5 c = search needs
 returns : tie.Need-returns
 unfolding litBits
 returns c = rw (
-  c .weight6 .ensures .0,
-  c .before .weight5 .ensures .0,
-  c .before .before .weight4 .ensures .0,
-  c .before .before .before .weight3 .ensures .0,
-  c .before .before .before .before .weight2 .ensures .0,
-  c .before .before .before .before .before .weight .ensures .0,
+  c .weight-of6 .ensures .0,
+  c .before .weight-of5 .ensures .0,
+  c .before .before .weight-of4 .ensures .0,
+  c .before .before .before .weight-of3 .ensures .0,
+  c .before .before .before .before .weight-of2 .ensures .0,
+  c .before .before .before .before .before .weight-of .ensures .0,
 )
 
 pub bits-spec : {M : Type 1} → statement M
