@@ -1,4 +1,4 @@
--- Laws of tests: conjunctions, and a choice between two values.
+-- Laws of tests: conjunctions, disjunctions, and a choice between two values.
 use mathlib.Core.Path.{_≡_, refl, sym}
 use Prim.Native.Nat.{ℕ, _<_}
 use mathlib.Core.Bool.{Bool, true, false, cond, _&&_, _||_, true≢false}

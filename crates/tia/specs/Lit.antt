@@ -38,7 +38,7 @@ missileLit enabled code o = enabled && (leb 4 (o .age) && leb (o .age) (3 + widt
 unfoldable pub ballLit : Enable → ℕ → Object → Bool
 ballLit e ctrlpf o = missileLit (cond (e .delayed) (e .old) (e .new)) (ctrlpf / 16 % 4) o
 
--- 9. Column x = h - 68.
+-- 9. Column x = h - 68; 0 in the horizontal blank, where step 10 shows nothing.
 abbrev pub columnOf : ℕ → ℕ
 columnOf h = h - blankClocks
 

@@ -14,7 +14,7 @@ use Rattle.tia.specs.Write.{NUSIZ0, NUSIZ1, CTRLPF, REFP0, REFP1, PF0, P
 abbrev pub upper : ℕ → ℕ
 upper v = v / 16 % 16
 
--- NUSIZ.
+-- NUSIZ: bits 0-2 copies, bits 4-5 the missile's width code.
 abbrev pub nusizAfter : ℕ → Write → Nusiz → Nusiz
 nusizAfter address w n =
     record { copies = cond (hits w address) (byteOf w % 8) (n .copies); width = cond (hits w address) (byteOf w / 16 % 4) (n .width) }
@@ -38,7 +38,7 @@ enableAfter w e =
       delayed = cond (hits w VDELBL) (bit 0 (byteOf w)) (e .delayed);
     }
 
--- CTRLPF and PF0 to PF2.
+-- CTRLPF as a whole byte, PF0's upper half byte, PF1 and PF2.
 abbrev pub playfieldAfter : Write → Playfield → Playfield
 playfieldAfter w p =
     record {

@@ -104,6 +104,7 @@ HMCLR = 0x2B
 abbrev pub CXCLR : ℕ
 CXCLR = 0x2C
 
+-- All registers.
 abbrev pub registers : List ℕ
 registers =
     NUSIZ0 ∷ NUSIZ1 ∷ CTRLPF ∷ REFP0 ∷ REFP1 ∷ PF0 ∷ PF1 ∷ PF2
