@@ -66,5 +66,7 @@ unfolding stepsToZero stepsTo
 none-from-zero k v e = rw e
 
 -- From any of the 64 values 000000 is met within PERIOD - 1 steps, from 000000 itself with none.
-pub zero-met : (k : Kind) (v : ℕ) → v < 64 → (n : ℕ) × (n < periodOf k) × (after (stepOf k) n v ≡ 0b000000) × (v ≡ 0b000000 → n ≡ 0)
+pub zero-met :
+    (k : Kind) (v : ℕ) → v < 64 →
+    (n : ℕ) × (n < periodOf k) × (after (stepOf k) n v ≡ 0b000000) × (v ≡ 0b000000 → n ≡ 0)
 zero-met k v h = (stepsToZero k v, few-steps k v h, meets-zero k v h, none-from-zero k v)

@@ -21,7 +21,9 @@ abbrev pub every : (ℕ → ℕ → Bool) → ℕ → List ℕ → Bool
 every test i [] = true
 every test i (x ∷ xs) = test i x && every test (suc i) xs
 
-from : (test : ℕ → ℕ → Bool) (xs : List ℕ) (i : ℕ) → T (every test i xs) → (k : ℕ) → k < length xs → T (test (i + k) (getD xs k 0))
+from :
+    (test : ℕ → ℕ → Bool) (xs : List ℕ) (i : ℕ) → T (every test i xs) → (k : ℕ) → k < length xs →
+    T (test (i + k) (getD xs k 0))
 from test [] i t k h = absurd (not-suc-le-zero h)
 from test (x ∷ xs) i t zero h = rw add-zero (and-left (test i x) (every test (suc i) xs) t)
 from test (x ∷ xs) i t (suc k) h =

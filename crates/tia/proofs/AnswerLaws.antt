@@ -14,7 +14,9 @@ unfolding clockAnswer
 clock-bad s w bad = rw bad
 
 -- .. from a good one with an unknown register 7, ..
-pub clock-unknown : (s : State) (w : Write) → badState s ≡ false → unknown w ≡ true → clockAnswer s w ≡ refusedClock forUnknownRegister s
+pub clock-unknown :
+    (s : State) (w : Write) → badState s ≡ false → unknown w ≡ true →
+    clockAnswer s w ≡ refusedClock forUnknownRegister s
 unfolding clockAnswer
 clock-unknown s w good u = rw (good, u)
 

@@ -24,7 +24,10 @@ use Rattle.tia.proofs.StateLaws.{good-in-range, good-rest, good-by}
 use Rattle.tia.proofs.RangeLaws.{registers-stay, objects-stay, timing-stays}
 
 -- With slot 16 reached or kept no live flag is left: a flag falls with the last slot, and HMOVE, which sets it, starts at slot 0.
-rest-live : (compares hit live equal : Bool) (slot : ℕ) → (hit ≡ true → compares ≡ false) → (slot ≡ 16 → live ≡ false) → cond compares (cond hit 0 slot + 1) (cond hit 0 slot) ≡ 16 → ((hit || live) && not (compares && (equal || eqb (cond hit 0 slot) 15))) ≡ false
+rest-live :
+    (compares hit live equal : Bool) (slot : ℕ) → (hit ≡ true → compares ≡ false) → (slot ≡ 16 → live ≡ false) →
+    cond compares (cond hit 0 slot + 1) (cond hit 0 slot) ≡ 16 →
+    ((hit || live) && not (compares && (equal || eqb (cond hit 0 slot) 15))) ≡ false
 rest-live true true live equal slot never rest e = absurd (true≢false (never refl))
 rest-live true false true true slot never rest e = refl
 rest-live true false true false slot never rest e = rw (eq-eqb slot 15 (omega arith))
@@ -43,7 +46,10 @@ tickAt w t = tickOf w (timingWritten w t)
 abbrev slotAfter : Write → Timing → ℕ
 slotAfter w t = timingAfter (tickAt w t .comparing) (timingWritten w t) .slot
 
-object-rests : (strobe hm copies : ℕ) (w : Write) (t : Timing) (o : Object) → (t .slot ≡ 16 → o .live ≡ false) → slotAfter w t ≡ 16 → objectAfter (tickAt w t) strobe hm copies w o .object .live ≡ false
+object-rests :
+    (strobe hm copies : ℕ) (w : Write) (t : Timing) (o : Object) → (t .slot ≡ 16 → o .live ≡ false) →
+    slotAfter w t ≡ 16 →
+    objectAfter (tickAt w t) strobe hm copies w o .object .live ≡ false
 unfolding objectAfter objectMoved
 object-rests strobe hm copies w t o rest e =
     rest-live
@@ -77,7 +83,9 @@ none-live os e =
       bl = or-second (os .m1 .live) _ last;
     }
 
-objects-rest : (w : Write) (t : Timing) (r : Registers) (os : Objects) → (t .slot ≡ 16 → NoneLive os) → slotAfter w t ≡ 16 → anyLive (objectsAfter (tickAt w t) r w os) ≡ false
+objects-rest :
+    (w : Write) (t : Timing) (r : Registers) (os : Objects) → (t .slot ≡ 16 → NoneLive os) → slotAfter w t ≡ 16 →
+    anyLive (objectsAfter (tickAt w t) r w os) ≡ false
 unfolding objectsAfter playerAfter missileAfter ballAfter
 objects-rest w t r os rest e =
     or-neither

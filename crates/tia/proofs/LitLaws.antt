@@ -20,7 +20,9 @@ unfolding playerLit
 no-longer-lit g p from past = rw (le-leb 5 (p .body .age) from, lt-leb (p .body .age) (4 + 8 * p .size) (omega arith))
 
 -- .. between them it shows a bit of its graphic, ..
-pub drawn-lit : (g : Graphic) (p : Player) → 5 ≤ p .body .age → p .body .age - 5 < 8 * p .size → playerLit g p ≡ shownBit g ((p .body .age - 5) / p .size)
+pub drawn-lit :
+    (g : Graphic) (p : Player) → 5 ≤ p .body .age → p .body .age - 5 < 8 * p .size →
+    playerLit g p ≡ shownBit g ((p .body .age - 5) / p .size)
 unfolding playerLit
 drawn-lit g p from within = rw (le-leb 5 (p .body .age) from, le-leb (p .body .age) (4 + 8 * p .size) (omega arith))
 

@@ -33,7 +33,10 @@ compare-is-signed m h =
     ⊎-elim (λ (l : m < 8). rw (lt-ltb m 8 l) (upright m l)) (λ (l : 8 ≤ m). rw (le-ltb m 8 l) (turned m l h)) (split m 8)
 
 -- One pulse steps the position counter exactly when position modulo 4 is 3, and leaves it otherwise.
-pub pulse-steps-counter : (start : Bool) (o : Object) → o .position < 160 → counterValue (pulsedIf true start o .position) ≡ cond (eqb (o .position % 4) 3) (stepOf position (counterValue (o .position))) (counterValue (o .position))
+pub pulse-steps-counter :
+    (start : Bool) (o : Object) → o .position < 160 →
+    counterValue (pulsedIf true start o .position)
+    ≡ cond (eqb (o .position % 4) 3) (stepOf position (counterValue (o .position))) (counterValue (o .position))
 unfolding valueOf after plainStep wrapStep
 pulse-steps-counter start o =
     below-equal

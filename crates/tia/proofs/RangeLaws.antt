@@ -34,7 +34,9 @@ nusiz-stays address w n ok =
     (chosen 7 (hits w address) (byteOf w % 8) (n .copies) (omega arith) (and-first (leb (n .copies) 7) (leb (n .width) 3) ok))
     (chosen 3 (hits w address) (byteOf w / 16 % 4) (n .width) (omega arith) (and-second (leb (n .copies) 7) (leb (n .width) 3) ok))
 
-graphic-stays : (reflect own other delay : ℕ) (w : Write) (g : Graphic) → ByteWritten w → graphicInRange g ≡ true → graphicInRange (graphicAfter reflect own other delay w g) ≡ true
+graphic-stays :
+    (reflect own other delay : ℕ) (w : Write) (g : Graphic) → ByteWritten w → graphicInRange g ≡ true →
+    graphicInRange (graphicAfter reflect own other delay w g) ≡ true
 unfolding graphicInRange
 graphic-stays reflect own other delay w g byte ok =
     let new = and-first (leb (g .new) 255) (leb (g .old) 255) ok in
@@ -43,7 +45,9 @@ graphic-stays reflect own other delay w g byte ok =
     (chosen 255 (hits w own) (byteOf w) (g .new) byte new)
     (chosen 255 (hits w other) (g .new) (g .old) (leb-true (g .new) 255 new) old)
 
-playfield-stays : (w : Write) (p : Playfield) → ByteWritten w → playfieldInRange p ≡ true → playfieldInRange (playfieldAfter w p) ≡ true
+playfield-stays :
+    (w : Write) (p : Playfield) → ByteWritten w → playfieldInRange p ≡ true →
+    playfieldInRange (playfieldAfter w p) ≡ true
 unfolding playfieldInRange
 playfield-stays w p byte ok =
     let rest = and-second (leb (p .ctrlpf) 255) (leb (p .pf0) 15 && (leb (p .pf1) 255 && leb (p .pf2) 255)) ok in
@@ -56,7 +60,9 @@ playfield-stays w p byte ok =
     (chosen 255 (hits w PF1) (byteOf w) (p .pf1) byte (and-first (leb (p .pf1) 255) _ last))
     (chosen 255 (hits w PF2) (byteOf w) (p .pf2) byte (and-second (leb (p .pf1) 255) _ last))))
 
-pub registers-stay : (w : Write) (r : Registers) → ByteWritten w → registersInRange r ≡ true → registersInRange (registersAfter w r) ≡ true
+pub registers-stay :
+    (w : Write) (r : Registers) → ByteWritten w → registersInRange r ≡ true →
+    registersInRange (registersAfter w r) ≡ true
 unfolding registersInRange registersAfter
 registers-stay w r byte ok =
     let from1 = and-second (nusizInRange (r .nusiz0)) _ ok in
@@ -103,14 +109,18 @@ strobed-stays strobe o ok =
     (chosen 159 strobe 0 (o .position) (omega arith) (and-first (leb (o .position) 159) _ ok))
     (and-second (leb (o .position) 159) _ ok)
 
-moved-stays : (k : Tick) (strobe : Bool) (copies : ℕ) (o : Object) → objectInRange o ≡ true → objectInRange (objectMoved k strobe copies o .object) ≡ true
+moved-stays :
+    (k : Tick) (strobe : Bool) (copies : ℕ) (o : Object) → objectInRange o ≡ true →
+    objectInRange (objectMoved k strobe copies o .object) ≡ true
 unfolding objectMoved
 moved-stays k strobe copies o ok =
     let slotted = slotPassed k o in
     let start = isStarted k strobe copies o in
     strobed-stays strobe (pulsedIf (isPulsed k o) start slotted) (pulsed-stays (isPulsed k o) start slotted ok)
 
-object-stays : (k : Tick) (strobe hm copies : ℕ) (w : Write) (o : Object) → objectInRange o ≡ true → objectInRange (objectAfter k strobe hm copies w o .object) ≡ true
+object-stays :
+    (k : Tick) (strobe hm copies : ℕ) (w : Write) (o : Object) → objectInRange o ≡ true →
+    objectInRange (objectAfter k strobe hm copies w o .object) ≡ true
 unfolding objectAfter
 object-stays k strobe hm copies w o ok = moved-stays k (hits w strobe) copies (objectWritten hm w o) (written-stays hm w o ok)
 
@@ -120,9 +130,18 @@ isSize n = eqb n 1 || (eqb n 2 || eqb n 4)
 
 size-taken : (copies : ℕ) → isSize (sizeOf copies) ≡ true
 unfolding isSize sizeOf
-size-taken copies = cond-passes isSize (eqb copies 5) {x = 2} {y = cond (eqb copies 7) 4 1} refl (cond-passes isSize (eqb copies 7) {x = 4} {y = 1} refl refl)
+size-taken copies =
+    cond-passes
+    isSize
+    (eqb copies 5)
+    {x = 2}
+    {y = cond (eqb copies 7) 4 1}
+    refl
+    (cond-passes isSize (eqb copies 7) {x = 4} {y = 1} refl refl)
 
-player-stays : (k : Tick) (strobe hm copies : ℕ) (w : Write) (p : Player) → playerInRange p ≡ true → playerInRange (playerAfter k strobe hm copies w p) ≡ true
+player-stays :
+    (k : Tick) (strobe hm copies : ℕ) (w : Write) (p : Player) → playerInRange p ≡ true →
+    playerInRange (playerAfter k strobe hm copies w p) ≡ true
 unfolding playerInRange playerAfter isSize
 player-stays k strobe hm copies w p ok =
     and-both
@@ -139,7 +158,9 @@ ball-stays k w o ok =
     (and-first (leb (ball .position) 159) _ in-range)
     (and-both (chosen 64 (hits w RESBL) 0 (ball .age) (omega arith) (and-first (leb (ball .age) 64) _ rest)) (and-second (leb (ball .age) 64) _ rest))
 
-pub objects-stay : (k : Tick) (r : Registers) (w : Write) (os : Objects) → objectsInRange os ≡ true → objectsInRange (objectsAfter k r w os) ≡ true
+pub objects-stay :
+    (k : Tick) (r : Registers) (w : Write) (os : Objects) → objectsInRange os ≡ true →
+    objectsInRange (objectsAfter k r w os) ≡ true
 unfolding objectsInRange objectsAfter missileAfter
 objects-stay k r w os ok =
     let from1 = and-second (playerInRange (os .p0)) _ ok in
@@ -170,7 +191,9 @@ slot-stays w t h = by-test (comparing w t) refl
     by-test true e = omega (arith, ltb-true (t .slot) 16 (and-first (ltb (t .slot) 16) _ e))
     by-test false e = h
 
-pub timing-stays : (w : Write) (t : Timing) → timingInRange t ≡ true → timingInRange (timingAfter (comparing w (timingWritten w t)) (timingWritten w t)) ≡ true
+pub timing-stays :
+    (w : Write) (t : Timing) → timingInRange t ≡ true →
+    timingInRange (timingAfter (comparing w (timingWritten w t)) (timingWritten w t)) ≡ true
 timing-stays w t ok =
     let slot = leb-true (t .slot) 16 (and-second (leb (t .h) 227) _ ok) in
     and-both

@@ -28,13 +28,18 @@ unfolding badState
 bad-decided s = either (not (inRange s)) (liveAtRest s) (misses (inRange s)) (passes (liveAtRest s))
 
 -- The number of a clock's answer, by its two tests.
-clock-number : (bad new : Bool) (s : State) (c : Clocked) → (cond bad (refusedClock forBadState s) (cond new (refusedClock forUnknownRegister s) (givenClock c))) .number ≡ cond bad forBadState (cond new forUnknownRegister 0)
+clock-number :
+    (bad new : Bool) (s : State) (c : Clocked) →
+    (cond bad (refusedClock forBadState s) (cond new (refusedClock forUnknownRegister s) (givenClock c))) .number
+    ≡ cond bad forBadState (cond new forUnknownRegister 0)
 clock-number true new s c = refl
 clock-number false true s c = refl
 clock-number false false s c = refl
 
 -- One colour clock refuses by row 1, then row 7, and nothing else.
-pub clock-refused-exactly : (s : State) (w : Write) → GivenInOrder (badStateRow s ∷ unknownRegisterRow w ∷ []) (clockAnswer s w .number)
+pub clock-refused-exactly :
+    (s : State) (w : Write) →
+    GivenInOrder (badStateRow s ∷ unknownRegisterRow w ∷ []) (clockAnswer s w .number)
 unfolding clockAnswer
 clock-refused-exactly s w =
     rw (clock-number (badState s) (unknown w) s (clockOf s w))
@@ -47,7 +52,9 @@ clock-refused-exactly s w =
     (apart forBadState forUnknownRegister (unknown w) 0 (λ e. omega arith) (λ e. omega arith))
     (in-order (unknownRegisterRow w) [] (unknown w) 0 (passes (unknown w)) (λ e. omega arith) refl))
 
-read-out-number : (bad : Bool) (x : Latches) → (cond bad (refusedReadOut forBadState) (givenReadOut x)) .number ≡ cond bad forBadState 0
+read-out-number :
+    (bad : Bool) (x : Latches) →
+    (cond bad (refusedReadOut forBadState) (givenReadOut x)) .number ≡ cond bad forBadState 0
 read-out-number true x = refl
 read-out-number false x = refl
 

@@ -16,7 +16,11 @@ unfolding graphicInRange
 graphic-bytes g n o = rw (le-leb (g .new) 255 n, le-leb (g .old) 255 o)
 
 -- Where the bytes are bytes, the registers are in range by copies, width codes and PF0.
-pub registers-by-bytes : (r : Registers) → r .playfield .ctrlpf ≤ 255 → r .playfield .pf1 ≤ 255 → r .playfield .pf2 ≤ 255 → r .graphic0 .new ≤ 255 → r .graphic0 .old ≤ 255 → r .graphic1 .new ≤ 255 → r .graphic1 .old ≤ 255 → registersInRange r ≡ (nusizInRange (r .nusiz0) && (nusizInRange (r .nusiz1) && leb (r .playfield .pf0) 15))
+pub registers-by-bytes :
+    (r : Registers) →
+    r .playfield .ctrlpf ≤ 255 → r .playfield .pf1 ≤ 255 → r .playfield .pf2 ≤ 255 →
+    r .graphic0 .new ≤ 255 → r .graphic0 .old ≤ 255 → r .graphic1 .new ≤ 255 → r .graphic1 .old ≤ 255 →
+    registersInRange r ≡ (nusizInRange (r .nusiz0) && (nusizInRange (r .nusiz1) && leb (r .playfield .pf0) 15))
 unfolding registersInRange playfieldInRange
 registers-by-bytes r c p1 p2 n0 o0 n1 o1 =
     rw (

@@ -14,7 +14,9 @@ after-requires c κs = search needs
 
 after-requires-2 : tie.Need-after-requires-2
 after-requires-2 c κs =
-    rw (c .before .before .before .before .before .before .written .ensures) (omega arith, slot-written (c .before .before .before .before .before .before .before .args .write) (c .before .before .before .before .before .before .before .args .state .timing) (omega arith))
+    let wrote = c .before .before .before .before .before .before in
+    let given = wrote .before .args in
+    rw (wrote .written .ensures) (omega arith, slot-written (given .write) (given .state .timing) (omega arith))
 
 returns : tie.Need-returns
 unfolding clockOf
