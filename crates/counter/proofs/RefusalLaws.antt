@@ -4,11 +4,10 @@ use mathlib.Core.Logic.{_⊎_}
 use mathlib.Core.List.{[], _∷_}
 use mathlib.Core.Bool.{Bool, true, false, cond}
 use Prim.Native.Nat.{ℕ, _<_}
-use native.Mathlib.Omega.{arith}
 use lib.Dec.{ltb, eqb}
 use Rattle.laws.specs.Refusal.{row, GivenInOrder}
 use Rattle.laws.proofs.Decides.{Decides, less, equal, either}
-use Rattle.laws.proofs.Refusals.{in-order}
+use Rattle.laws.proofs.Refusals.{check, in-order}
 use Rattle.counter.specs.Kind.{Kind}
 use Rattle.counter.specs.Answers.{given, refused, noSuch, noSuchCount, noSuchValue, noSuchConversion, stepAnswer, valueAnswer, countAnswer}
 
@@ -19,7 +18,7 @@ number-is false v = refl
 
 -- Refusal 10 alone, decided by one test.
 one-row : {When : Type 0} (test : Bool) → Decides test When → GivenInOrder (row noSuch When ∷ []) (cond test noSuch 0)
-one-row {When} test d = in-order (row noSuch When) [] test 0 d (λ e. omega arith) refl
+one-row test d = in-order (check noSuch test d ∷ []) refl
 
 -- The step refuses a value over 63.
 pub step-refused-exactly : (k : Kind) (v : ℕ) → GivenInOrder (row noSuch (63 < v) ∷ []) (stepAnswer k v .number)

@@ -12,8 +12,16 @@ pub record Row : Type 1 where
 abbrev pub row : ℕ → Type 0 → Row
 row n P = record { number = n; when = P }
 
--- The rows of a call in their order of checks. The first row's number is given exactly when it holds; where it does not, the
--- rows after it decide; where none holds the number is 0, no refusal.
+-- None of these rows holds.
+abbrev pub NoneHolds : List {1} Row → Type 0
+NoneHolds [] = Unit {0}
+NoneHolds (r ∷ rs) = (r .when → ⊥) × NoneHolds rs
+
+-- The rows of a call in their order of checks: a row's number is given exactly when it holds and no row before it does, and
+-- 0, no refusal, exactly when none holds.
+abbrev pub GivenAfter : List {1} Row → List {1} Row → ℕ → Type 0
+GivenAfter before [] given = (given ≡ 0) ↔ NoneHolds before
+GivenAfter before (r ∷ rs) given = ((given ≡ r .number) ↔ (NoneHolds before × r .when)) × GivenAfter (r ∷ before) rs given
+
 abbrev pub GivenInOrder : List {1} Row → ℕ → Type 0
-GivenInOrder [] given = given ≡ 0
-GivenInOrder (r ∷ rs) given = ((given ≡ r .number) ↔ r .when) × ((r .when → ⊥) → GivenInOrder rs given)
+GivenInOrder rows given = GivenAfter [] rows given

@@ -1,12 +1,10 @@
 -- The refusals of the public calls are given exactly when their rows of the table hold, in their order.
 use mathlib.Core.Path.{_≡_, refl}
-use mathlib.Core.Logic.{_⊎_}
 use mathlib.Core.List.{[], _∷_}
 use mathlib.Core.Bool.{Bool, true, false, cond, not}
-use native.Mathlib.Omega.{arith}
-use Rattle.laws.specs.Refusal.{Row, row, GivenInOrder}
+use Rattle.laws.specs.Refusal.{GivenInOrder}
 use Rattle.laws.proofs.Decides.{Decides, either, passes, misses}
-use Rattle.laws.proofs.Refusals.{in-order, apart}
+use Rattle.laws.proofs.Refusals.{check, in-order}
 use Rattle.tia.specs.declared.clock.Clocked.{Clocked}
 use Rattle.tia.specs.declared.latches.Latches.{Latches}
 use Rattle.tia.specs.declared.state.State.{State}
@@ -14,15 +12,9 @@ use Rattle.tia.specs.declared.write.Write.{Write}
 use Rattle.tia.specs.Write.{unknown}
 use Rattle.tia.specs.State.{inRange, liveAtRest, badState}
 use Rattle.tia.specs.Clock.{clockOf}
-use Rattle.tia.specs.Answers.{forBadState, forUnknownRegister, refusedClock, givenClock, clockAnswer, refusedReadOut, givenReadOut, readOutAnswer}
+use Rattle.tia.specs.Answers.{forBadState, forUnknownRegister, badStateRow, unknownRegisterRow, refusedClock, givenClock, clockAnswer, refusedReadOut, givenReadOut, readOutAnswer}
 
--- Row 1: a state field is outside its range, or a live flag is set with slot 16. Row 7: unknown register.
-abbrev pub badStateRow : State → Row
-badStateRow s = row forBadState ((inRange s ≡ false) ⊎ (liveAtRest s ≡ true))
-
-abbrev pub unknownRegisterRow : Write → Row
-unknownRegisterRow w = row forUnknownRegister (unknown w ≡ true)
-
+-- The state check decides row 1.
 bad-decided : (s : State) → Decides (badState s) (badStateRow s .when)
 unfolding badState
 bad-decided s = either (not (inRange s)) (liveAtRest s) (misses (inRange s)) (passes (liveAtRest s))
@@ -43,14 +35,7 @@ pub clock-refused-exactly :
 unfolding clockAnswer
 clock-refused-exactly s w =
     rw (clock-number (badState s) (unknown w) s (clockOf s w))
-    (in-order
-    (badStateRow s)
-    (unknownRegisterRow w ∷ [])
-    (badState s)
-    (cond (unknown w) forUnknownRegister 0)
-    (bad-decided s)
-    (apart forBadState forUnknownRegister (unknown w) 0 (λ e. omega arith) (λ e. omega arith))
-    (in-order (unknownRegisterRow w) [] (unknown w) 0 (passes (unknown w)) (λ e. omega arith) refl))
+    (in-order (check forBadState (badState s) (bad-decided s) ∷ check forUnknownRegister (unknown w) (passes (unknown w)) ∷ []) refl)
 
 read-out-number :
     (bad : Bool) (x : Latches) →
@@ -62,5 +47,4 @@ read-out-number false x = refl
 pub read-out-refused-exactly : (s : State) → GivenInOrder (badStateRow s ∷ []) (readOutAnswer s .number)
 unfolding readOutAnswer
 read-out-refused-exactly s =
-    rw (read-out-number (badState s) (s .latches))
-    (in-order (badStateRow s) [] (badState s) 0 (bad-decided s) (λ e. omega arith) refl)
+    rw (read-out-number (badState s) (s .latches)) (in-order (check forBadState (badState s) (bad-decided s) ∷ []) refl)

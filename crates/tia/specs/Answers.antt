@@ -1,7 +1,10 @@
 -- What each public call answers: the refusals in their order of checks, then the answer.
 use Prim.Native.Nat.{ℕ}
-use mathlib.Core.Bool.{cond}
+use mathlib.Core.Path.{_≡_}
+use mathlib.Core.Logic.{_⊎_}
+use mathlib.Core.Bool.{true, false, cond}
 use lib.ListN.{replicate}
+use Rattle.laws.specs.Refusal.{Row, row}
 use Rattle.tia.specs.declared.clock.Clocked.{Clocked}
 use Rattle.tia.specs.declared.answers.ClockAnswer.{ClockAnswer}
 use Rattle.tia.specs.declared.answers.ReadOut.{ReadOut}
@@ -9,7 +12,7 @@ use Rattle.tia.specs.declared.latches.Latches.{Latches}
 use Rattle.tia.specs.declared.state.State.{State}
 use Rattle.tia.specs.declared.write.Write.{Write}
 use Rattle.tia.specs.Write.{unknown}
-use Rattle.tia.specs.State.{badState}
+use Rattle.tia.specs.State.{inRange, liveAtRest, badState}
 use Rattle.tia.specs.Latches.{readOut}
 use Rattle.tia.specs.Clock.{clockOf}
 
@@ -19,6 +22,13 @@ forBadState = 1
 
 abbrev pub forUnknownRegister : ℕ
 forUnknownRegister = 7
+
+-- Their rows of the refusal table.
+abbrev pub badStateRow : State → Row
+badStateRow s = row forBadState ((inRange s ≡ false) ⊎ (liveAtRest s ≡ true))
+
+abbrev pub unknownRegisterRow : Write → Row
+unknownRegisterRow w = row forUnknownRegister (unknown w ≡ true)
 
 -- A refused clock gives the number, index 0 and the given state; the answer byte is 0.
 abbrev pub refusedClock : ℕ → State → ClockAnswer

@@ -12,9 +12,10 @@ use Rattle.tia.specs.State.{startState}
 use Rattle.tia.specs.Timing.{noMotion}
 use Rattle.tia.specs.Clock.{clockOf}
 
--- The pulses that missile 0 gets in clocks without a write until no motion is under way; the limit counts the clocks.
+-- The pulses that missile 0 gets in clocks without a write until slot 16, no motion under way. Where that takes more clocks than
+-- the limit, 1000 more are counted, so that no case can claim the number.
 unfoldable pub pulsesUntilRest : ℕ → State → ℕ
-pulsesUntilRest zero s = 0
+pulsesUntilRest zero s = 1000
 pulsesUntilRest (suc limit) s =
     let next = clockOf s Nothing .state in
     let more = pulsesUntilRest limit next in

@@ -1,6 +1,6 @@
 // The chip's state, its start, and its check.
 ghost use mathlib.Core.Path.{_≡_};
-ghost use Rattle.tia.specs.State.{objectInRange, playerInRange, objectsInRange, anyLive, timingInRange, nusizInRange, playfieldInRange, registersInRange, badState, startObject, startPlayer, startObjects, startRegisters, startState};
+ghost use Rattle.tia.specs.State.{objectInRange, playerInRange, objectsInRange, anyLive, timingInRange, nusizInRange, registersInRange, badState, startObjects, startRegisters, startState};
 use crate::latches::Latches;
 use crate::object::NOT_DRAWN;
 use crate::object::Object;
