@@ -1,11 +1,12 @@
-//! The cases: single clocks and walks of 1,000 clocks, their records in the case file, and the
-//! generation of all of them from one seed.
+//! The cases: single clocks and walks of 1,000 clocks with their records in the case file, and the
+//! generation of these and of the line calls from fixed seeds.
 
+use crate::calls::{LineCase, RunCase};
 use crate::chip_state::State;
 use crate::clock::RegisterWrite;
 use crate::random::Random;
 use crate::state_bytes::to_bytes;
-use crate::{single_cases, walk_cases};
+use crate::{line_cases, run_cases, single_cases, walk_cases};
 
 /// The number of single clocks.
 pub const SINGLES: usize = 3200;
@@ -19,8 +20,14 @@ pub const WALK_CLOCKS: usize = 1000;
 /// The number of writes of a walk.
 pub const WALK_WRITES: usize = 64;
 
-/// The seed of the cases.
-const SEED: u64 = 2600;
+/// The seed of the single clocks and walks.
+const CLOCK_SEED: u64 = 2600;
+
+/// The seed of the line records.
+const LINE_SEED: u64 = 2601;
+
+/// The seed of the runs.
+const RUN_SEED: u64 = 2602;
 
 /// One clock: the state given to it and its write.
 #[derive(Clone, Copy, Debug, PartialEq, Eq)]
@@ -86,20 +93,25 @@ impl Walk {
 pub struct Cases {
     pub singles: Vec<Single>,
     pub walks: Vec<Walk>,
+    pub lines: Vec<LineCase>,
+    pub runs: Vec<RunCase>,
 }
 
-/// The cases of the seed.
+/// The cases of the seeds.
 pub fn generate() -> Cases {
-    let mut random = Random::new(SEED);
+    let mut random = Random::new(CLOCK_SEED);
     Cases {
         singles: single_cases::generate(&mut random),
         walks: walk_cases::generate(&mut random),
+        lines: line_cases::generate(&mut Random::new(LINE_SEED)),
+        runs: run_cases::generate(&mut Random::new(RUN_SEED)),
     }
 }
 
 #[cfg(test)]
 mod tests {
     use super::*;
+    use crate::calls::{LINES, RUNS};
 
     /// A write of this address and value.
     fn write(address: u8, value: u8) -> RegisterWrite {
@@ -178,6 +190,8 @@ mod tests {
         let cases = generate();
         assert_eq!(cases.singles.len(), SINGLES);
         assert_eq!(cases.walks.len(), WALKS);
+        assert_eq!(cases.lines.len(), LINES);
+        assert_eq!(cases.runs.len(), RUNS);
         assert_eq!(cases, generate());
     }
 }

@@ -1,15 +1,16 @@
 //! The text of the chip report: for each single clock its answer and the read-out after it, for
-//! each walk the digest of all its answers.
+//! each walk the digest of all its answers, then the lines and the runs.
 
 use crate::cases::{generate, Single, Walk};
 use crate::chip_state::State;
 use crate::clock::{clock, Answer};
 use crate::collisions::read_out;
+use crate::digest::Digest;
+use crate::line_report::{line_text, run_text};
 use crate::state_bytes::to_bytes;
-use std::fmt;
 use std::io::{self, Write};
 
-/// Writes a line for each single clock and each walk. Ends early with the first write error.
+/// Writes a line for each case. Ends early with the first write error.
 pub fn write(out: &mut dyn Write) -> io::Result<()> {
     let cases = generate();
     for single in &cases.singles {
@@ -17,6 +18,12 @@ pub fn write(out: &mut dyn Write) -> io::Result<()> {
     }
     for (n, walk) in cases.walks.iter().enumerate() {
         writeln!(out, "walk {} {}", n, walk_digest(walk))?;
+    }
+    for (n, case) in cases.lines.iter().enumerate() {
+        writeln!(out, "{}", line_text(n, case))?;
+    }
+    for (n, run) in cases.runs.iter().enumerate() {
+        writeln!(out, "{}", run_text(n, run))?;
     }
     Ok(())
 }
@@ -47,8 +54,7 @@ fn read_out_of(state: &State) -> ReadOut {
 /// The line of a single clock without its newline.
 fn single_line(single: &Single) -> String {
     let answer = clock(&single.state, single.write);
-    let mut digest = Digest::new();
-    digest.add(&to_bytes(&answer.state));
+    let digest = Digest::of(&to_bytes(&answer.state));
     let read = read_out_of(&answer.state);
     let hexadecimal: String = read
         .bytes
@@ -83,43 +89,11 @@ fn add_clock(digest: &mut Digest, answer: &Answer) {
     digest.add(&read.bytes);
 }
 
-/// The digest of bytes.
-#[derive(Clone, Copy, Debug, PartialEq, Eq)]
-struct Digest(u64);
-
-impl Digest {
-    /// The digest of no bytes.
-    fn new() -> Digest {
-        Digest(0)
-    }
-
-    /// Adds bytes, one after another.
-    fn add(&mut self, bytes: &[u8]) {
-        for &byte in bytes {
-            self.0 = (self.0 * 16_777_619 + u64::from(byte) + 1) % 4_294_967_291;
-        }
-    }
-}
-
-impl fmt::Display for Digest {
-    /// Writes eight lower-case hexadecimal digits.
-    fn fmt(&self, out: &mut fmt::Formatter<'_>) -> fmt::Result {
-        write!(out, "{:08x}", self.0)
-    }
-}
-
 #[cfg(test)]
 mod tests {
     use super::*;
     use crate::cases::{WaitedWrite, WALK_WRITES};
     use crate::clock::RegisterWrite;
-
-    /// The digest of these bytes, as text.
-    fn digest_of(bytes: &[u8]) -> String {
-        let mut digest = Digest::new();
-        digest.add(bytes);
-        digest.to_string()
-    }
 
     /// The line of a clock from this state with a write of address and value.
     fn line(state: State, write: Option<(u8, u8)>) -> String {
@@ -130,33 +104,22 @@ mod tests {
     }
 
     #[test]
-    fn digests_reckoned_by_hand() {
-        assert_eq!(digest_of(&[]), "00000000");
-        assert_eq!(digest_of(&[0]), "00000001");
-        assert_eq!(digest_of(&[255]), "00000100");
-        assert_eq!(digest_of(&[0, 0]), "01000194");
-        assert_eq!(digest_of(&[1, 2]), "02000329");
-        // 256 x 16,777,619 + 1 = 4,295,070,465, less 4,294,967,291.
-        assert_eq!(digest_of(&[255, 0]), "00019306");
-    }
-
-    #[test]
     fn lines_of_accepted_and_refused_clocks() {
         let mut after = State::START;
         after.h = 1;
-        let digest = digest_of(&to_bytes(&after));
+        let digest = Digest::of(&to_bytes(&after));
         let expected = format!("0 0 128 {} 0 0 0000000000000000", digest);
         assert_eq!(line(State::START, None), expected);
 
         let mut latched = State::START;
         latched.latches = [true; 15];
-        let digest = digest_of(&to_bytes(&latched));
+        let digest = Digest::of(&to_bytes(&latched));
         let expected = format!("7 0 0 {} 0 0 c0c0c0c0c0c080c0", digest);
         assert_eq!(line(latched, Some((0x2D, 1))), expected);
 
         let mut bad = latched;
         bad.slot = 17;
-        let digest = digest_of(&to_bytes(&bad));
+        let digest = Digest::of(&to_bytes(&bad));
         let expected = format!("1 0 0 {} 1 0 0000000000000000", digest);
         assert_eq!(line(bad, Some((0x2D, 1))), expected);
     }
@@ -225,14 +188,22 @@ mod tests {
         let text = String::from_utf8(out).unwrap();
         let lines: Vec<&str> = text.lines().collect();
         assert!(text.ends_with('\n'));
-        assert_eq!(lines.len(), 3520);
+        assert_eq!(lines.len(), 3200 + 320 + 3200 + 300);
         for line in &lines[..3200] {
             let fields: Vec<&str> = line.split(' ').collect();
             assert_eq!(fields.len(), 7);
             assert_eq!((fields[3].len(), fields[6].len()), (8, 16));
         }
-        for (n, line) in lines[3200..].iter().enumerate() {
+        for (n, line) in lines[3200..3520].iter().enumerate() {
             assert!(line.starts_with(&format!("walk {} ", n)));
+            assert_eq!(line.split(' ').count(), 3);
+        }
+        for line in &lines[3520..6720] {
+            assert!(line.starts_with("line "));
+            assert_eq!(line.split(' ').count(), 13);
+        }
+        for (n, line) in lines[6720..].iter().enumerate() {
+            assert!(line.starts_with(&format!("run {} ", n)));
             assert_eq!(line.split(' ').count(), 3);
         }
     }

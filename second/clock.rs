@@ -266,123 +266,6 @@ mod tests {
         run(state, write).unwrap()
     }
 
-    /// The state and the 160 bytes of a line from h = 0 with writes of clock, address, value.
-    fn line(state: &State, writes: &[(u8, u8, u8)]) -> (State, Vec<u8>) {
-        let mut state = *state;
-        let mut bytes = Vec::new();
-        assert_eq!(state.h, 0);
-        for h in 0..228 {
-            let write = writes.iter().find(|write| write.0 == h);
-            let answer = clock(&state, write.and_then(|write| to(write.1, write.2)));
-            assert_eq!((answer.number, answer.record), (0, 0));
-            assert_eq!(answer.byte == 128, h < 68);
-            state = answer.state;
-            if h >= 68 {
-                bytes.push(answer.byte);
-            }
-        }
-        (state, bytes)
-    }
-
-    /// The columns in which an object is lit.
-    fn columns(bytes: &[u8], object: usize) -> Vec<usize> {
-        (0..bytes.len())
-            .filter(|&x| bytes[x] < 64 && bytes[x] >> object & 1 == 1)
-            .collect()
-    }
-
-    /// The columns that hold 64.
-    fn blank_columns(bytes: &[u8]) -> Vec<usize> {
-        (0..bytes.len()).filter(|&x| bytes[x] == 64).collect()
-    }
-
-    /// The state after a line in which missile 0 is enabled and strobed at a clock.
-    fn missile_strobed_at(h: u8) -> State {
-        line(&State::START, &[(0, 0x1D, 2), (h, 0x12, 0)]).0
-    }
-
-    /// The column of missile 0 in the second line after one with HMOVE at a clock, its motion
-    /// value being this half byte.
-    fn column_after_hmove(state: &State, h: u8, half_byte: u8) -> Vec<usize> {
-        let (set, _) = line(state, &[(0, 0x22, half_byte << 4)]);
-        let (moved, _) = line(&set, &[(h, HMOVE, 0)]);
-        let (settled, _) = line(&moved, &[]);
-        assert_eq!(settled.slot, 16);
-        columns(&line(&settled, &[]).1, M0)
-    }
-
-    #[test]
-    fn bench_missile_strobed_at_30_and_100() {
-        let state = missile_strobed_at(30);
-        assert_eq!(columns(&line(&state, &[]).1, M0), [3]);
-        let state = missile_strobed_at(100);
-        assert_eq!(columns(&line(&state, &[]).1, M0), [36]);
-    }
-
-    #[test]
-    fn bench_ball_strobed_at_100_shows_on_the_same_line() {
-        let (_, bytes) = line(&State::START, &[(0, 0x1F, 2), (100, 0x14, 0)]);
-        assert_eq!(columns(&bytes, BL).first(), Some(&36));
-    }
-
-    #[test]
-    fn bench_player_strobed_at_100_shows_on_the_next_line() {
-        let (state, bytes) = line(&State::START, &[(0, 0x1B, 255), (100, 0x10, 0)]);
-        assert!(columns(&bytes, P0).iter().all(|&x| x < 37));
-        let expected: Vec<usize> = (37..=44).collect();
-        assert_eq!(columns(&line(&state, &[]).1, P0), expected);
-    }
-
-    #[test]
-    fn bench_copies_3_written_after_the_strobe() {
-        let writes = [(0, 0x1B, 255), (100, 0x10, 0), (101, 0x04, 3)];
-        let (state, bytes) = line(&State::START, &writes);
-        let mut expected: Vec<usize> = (53..=60).chain(69..=76).collect();
-        assert_eq!(columns(&bytes, P0), expected);
-        expected.extend(37..=44);
-        expected.sort_unstable();
-        assert_eq!(columns(&line(&state, &[]).1, P0), expected);
-    }
-
-    #[test]
-    fn bench_hmove_at_9() {
-        let state = missile_strobed_at(100);
-        for (half_byte, column) in [(7, 29), (15, 37), (8, 44)] {
-            assert_eq!(column_after_hmove(&state, 9, half_byte), [column]);
-        }
-        let state = missile_strobed_at(30);
-        assert_eq!(column_after_hmove(&state, 9, 7), [156]);
-    }
-
-    #[test]
-    fn bench_hmove_at_15_16_67_68_and_227() {
-        let state = missile_strobed_at(100);
-        let cases = [
-            (15, 7, 29),
-            (16, 7, 30),
-            (67, 0, 42),
-            (68, 0, 36),
-            (227, 0, 28),
-        ];
-        for (h, half_byte, column) in cases {
-            assert_eq!(column_after_hmove(&state, h, half_byte), [column]);
-        }
-    }
-
-    #[test]
-    fn bench_columns_0_to_7_hold_64_after_hmove_at_9() {
-        let (state, bytes) = line(&State::START, &[(9, HMOVE, 0)]);
-        assert_eq!(blank_columns(&bytes), [0, 1, 2, 3, 4, 5, 6, 7]);
-        assert!(blank_columns(&line(&state, &[]).1).is_empty());
-    }
-
-    #[test]
-    fn bench_after_hmove_at_227_no_column_is_blank() {
-        let (state, bytes) = line(&State::START, &[(227, HMOVE, 0)]);
-        assert!(blank_columns(&bytes).is_empty());
-        assert!(blank_columns(&line(&state, &[]).1).is_empty());
-    }
-
     #[test]
     fn bench_cxclr_with_an_overlap_leaves_that_pair_latched() {
         let mut state = at(100);
@@ -671,17 +554,6 @@ mod tests {
         assert_eq!(after.objects[M0].age, 21);
     }
 
-    #[test]
-    fn a_held_size_outlasts_a_change_of_copies() {
-        let writes = [(0, 0x1B, 255), (1, 0x04, 5), (100, 0x10, 0)];
-        let (state, _) = line(&State::START, &writes);
-        let (state, bytes) = line(&state, &[(108, 0x04, 0)]);
-        let sixteen: Vec<usize> = (37..=52).collect();
-        assert_eq!(columns(&bytes, P0), sixteen);
-        let eight: Vec<usize> = (37..=44).collect();
-        assert_eq!(columns(&line(&state, &[]).1, P0), eight);
-    }
-
     /// A state at clock h whose next clock, pulsed or not, lights all objects and the playfield.
     fn all_lit(h: u8) -> State {
         let mut state = at(h);
@@ -773,24 +645,5 @@ mod tests {
             assert_eq!(accepted(&at(h), None).state.h, h + 1);
         }
         assert_eq!(accepted(&at(227), None).state.h, 0);
-    }
-
-    #[test]
-    fn motion_under_way_goes_on_over_the_line_end() {
-        let (state, _) = line(&State::START, &[(164, HMOVE, 0)]);
-        assert_eq!(state.slot, 15);
-        let (state, _) = line(&State::START, &[(163, HMOVE, 0)]);
-        assert_eq!(state.slot, 16);
-    }
-
-    #[test]
-    fn a_quiet_line_pulses_each_object_160_times() {
-        let (state, bytes) = line(&State::START, &[]);
-        assert_eq!(bytes, [0; 160]);
-        assert!(state.objects.iter().all(|object| object.position == 0));
-        let (state, _) = line(&State::START, &[(10, HMOVE, 0), (70, HMOVE, 0)]);
-        assert!(state.late);
-        // Eight extra pulses of the first motion, one of the second at clock 72.
-        assert_eq!(state.objects[P0].position, (152 + 8 + 1) % 160);
     }
 }

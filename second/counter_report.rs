@@ -31,7 +31,7 @@ fn row(byte: u8) -> String {
 fn field<T: Display>(answer: Result<T, Refusal>) -> String {
     match answer {
         Ok(answer) => answer.to_string(),
-        Err(refusal) => format!("refused({},{})", refusal.number, refusal.record),
+        Err(refusal) => refusal.to_string(),
     }
 }
 

@@ -1,5 +1,5 @@
-//! Coverage: a table of named things that the cases must make happen, and the counting of them
-//! while every case is run on the chip.
+//! Coverage: a table of named things that the cases must make happen, and the counting of those
+//! that happen on a clock while every single clock and walk is run on the chip.
 
 use crate::cases::{Cases, Walk};
 use crate::chip_state::State;
@@ -23,36 +23,64 @@ impl Place {
 }
 
 /// A clock that was run: what it was given and what came of it.
-pub struct Seen<'a> {
+pub struct Seen {
     pub place: Place,
-    pub given: &'a State,
+    pub given: State,
     pub write: Option<RegisterWrite>,
-    pub outcome: &'a Result<Done, Refusal>,
+    pub outcome: Result<Done, Refusal>,
 }
 
-/// Whether a thing happens on a clock.
-type Happens = Box<dyn Fn(&Seen) -> bool>;
-
-/// A thing that must happen: its name, how often it is still missing, and whether a clock has it.
-struct Entry {
+/// A thing that must happen: its name, how often it is still missing, and whether it happens on
+/// what is seen.
+struct Entry<T> {
     name: String,
     missing: u32,
-    happens: Happens,
+    happens: Box<dyn Fn(&T) -> bool>,
 }
 
 /// The things that have not yet happened often enough.
-pub struct Table {
-    entries: Vec<Entry>,
+pub struct Table<T> {
+    entries: Vec<Entry<T>>,
 }
 
-impl Table {
+impl<T> Table<T> {
     /// The table without entries.
-    pub fn new() -> Table {
+    pub fn new() -> Table<T> {
         Table {
             entries: Vec::new(),
         }
     }
 
+    /// Adds a thing that must happen so often.
+    pub fn add(&mut self, times: u32, name: &str, happens: impl Fn(&T) -> bool + 'static) {
+        self.entries.push(Entry {
+            name: name.to_string(),
+            missing: times,
+            happens: Box::new(happens),
+        });
+    }
+
+    /// Counts what is seen: an entry that has happened often enough leaves the table.
+    pub fn see(&mut self, seen: &T) {
+        self.entries.retain_mut(|entry| {
+            if (entry.happens)(seen) {
+                entry.missing -= 1;
+            }
+            entry.missing > 0
+        });
+    }
+
+    /// A line for each entry left, with how often it must still happen; empty if none is left.
+    pub fn missing(&self) -> String {
+        let mut text = String::new();
+        for entry in &self.entries {
+            text += &format!("missing: {} ({} more)\n", entry.name, entry.missing);
+        }
+        text
+    }
+}
+
+impl Table<Seen> {
     /// Adds a thing that must happen so often on accepted clocks.
     pub fn accepted(
         &mut self,
@@ -60,11 +88,10 @@ impl Table {
         name: &str,
         happens: impl Fn(&Seen, &Done) -> bool + 'static,
     ) {
-        let happens: Happens = Box::new(move |seen| match seen.outcome {
+        self.add(times, name, move |seen| match &seen.outcome {
             Ok(done) => happens(seen, done),
             Err(_) => false,
         });
-        self.add(times, name, happens);
     }
 
     /// Adds a thing that must happen so often on refused clocks; it is asked with the number.
@@ -74,40 +101,20 @@ impl Table {
         name: &str,
         happens: impl Fn(&Seen, u8) -> bool + 'static,
     ) {
-        let happens: Happens = Box::new(move |seen| match seen.outcome {
+        self.add(times, name, move |seen| match seen.outcome {
             Ok(_) => false,
             Err(refusal) => happens(seen, refusal.number),
         });
-        self.add(times, name, happens);
     }
 
-    /// Adds an entry.
-    fn add(&mut self, times: u32, name: &str, happens: Happens) {
-        self.entries.push(Entry {
-            name: name.to_string(),
-            missing: times,
-            happens,
-        });
-    }
-
-    /// Counts a clock: an entry that has happened often enough leaves the table.
-    fn see(&mut self, seen: &Seen) {
-        self.entries.retain_mut(|entry| {
-            if (entry.happens)(seen) {
-                entry.missing -= 1;
-            }
-            entry.missing > 0
-        });
-    }
-
-    /// Counts all clocks of the cases.
+    /// Counts all clocks of the single clocks and walks.
     pub fn count(&mut self, cases: &Cases) {
         for single in &cases.singles {
             self.see(&Seen {
                 place: Place::Single,
-                given: &single.state,
+                given: single.state,
                 write: single.write,
-                outcome: &run(&single.state, single.write),
+                outcome: run(&single.state, single.write),
             });
         }
         for walk in &cases.walks {
@@ -123,24 +130,15 @@ impl Table {
             let outcome = run(&state, write);
             self.see(&Seen {
                 place: Place::Walk { hmove_before },
-                given: &state,
+                given: state,
                 write,
-                outcome: &outcome,
+                outcome,
             });
             if let Ok(done) = outcome {
                 state = done.state;
                 hmove_before |= done.register == Some(Register::Hmove);
             }
         }
-    }
-
-    /// A line for each entry left, with how often it must still happen; empty if none is left.
-    pub fn missing(&self) -> String {
-        let mut text = String::new();
-        for entry in &self.entries {
-            text += &format!("missing: {} ({} more)\n", entry.name, entry.missing);
-        }
-        text
     }
 }
 
@@ -175,6 +173,8 @@ mod tests {
                 state: State::START,
                 writes,
             }],
+            lines: vec![],
+            runs: vec![],
         }
     }
 

@@ -1,4 +1,5 @@
-//! The list of what the cases must make happen, in the order of the paper's steps.
+//! The list of what the single clocks and walks must make happen, in the order of the paper's
+//! steps.
 
 use crate::chip_state::{State, NO_MOTION};
 use crate::clock::Done;
@@ -15,7 +16,7 @@ use crate::state_bytes::to_bytes;
 const FEW: u32 = 5;
 
 /// The whole list.
-pub fn required() -> Table {
+pub fn required() -> Table<Seen> {
     let mut table = Table::new();
     refusals(&mut table);
     fields_out_of_range(&mut table);
@@ -51,7 +52,7 @@ pub fn required() -> Table {
 }
 
 /// Refusal 7 for each unknown address, refusal 1 whatever is written.
-fn refusals(table: &mut Table) {
+fn refusals(table: &mut Table<Seen>) {
     for address in unknown_addresses() {
         let name = format!("unknown register {:02X} refused with 7", address);
         table.refused(FEW, &name, move |seen, number| {
@@ -71,18 +72,18 @@ fn refusals(table: &mut Table) {
         });
     }
     table.refused(FEW, "refusal 1 with several faults", |seen, number| {
-        number == 1 && faults(&to_bytes(seen.given)).len() > 1
+        number == 1 && faults(&to_bytes(&seen.given)).len() > 1
     });
 }
 
 /// Whether a clock was refused with 1 for this fault alone.
 fn refused_for(seen: &Seen, number: u8, fault: Fault) -> bool {
-    number == 1 && faults(&to_bytes(seen.given)) == [fault]
+    number == 1 && faults(&to_bytes(&seen.given)) == [fault]
 }
 
 /// Refusal 1 for each field alone out of range, at each of the bytes next to its range and at
 /// 255, and for each object's live flag alone with slot 16.
-fn fields_out_of_range(table: &mut Table) {
+fn fields_out_of_range(table: &mut Table<Seen>) {
     for (n, field) in FIELDS.iter().enumerate() {
         let name = format!("refusal 1 for {} alone", field.name);
         table.refused(FEW, &name, move |seen, number| {
@@ -92,7 +93,7 @@ fn fields_out_of_range(table: &mut Table) {
             let name = format!("refusal 1 for {} alone being {}", field.name, byte);
             table.refused(3, &name, move |seen, number| {
                 refused_for(seen, number, Fault::Field(n))
-                    && to_bytes(seen.given)[FIELDS[n].place] == byte
+                    && to_bytes(&seen.given)[FIELDS[n].place] == byte
             });
         }
     }
@@ -105,7 +106,7 @@ fn fields_out_of_range(table: &mut Table) {
 }
 
 /// Step 1.
-fn late_flag(table: &mut Table) {
+fn late_flag(table: &mut Table<Seen>) {
     table.accepted(FEW, "late flag falls at h = 0", |seen, done| {
         seen.given.h == 0 && seen.given.late && !done.state.late
     });
@@ -125,7 +126,7 @@ fn wrote(done: &Done, register: Register) -> bool {
 }
 
 /// Step 2: every known register, also with bits that are not kept.
-fn written_registers(table: &mut Table) {
+fn written_registers(table: &mut Table<Seen>) {
     for (_, name, register) in KNOWN {
         let single = format!("{} written in a single record", name);
         table.accepted(8, &single, move |seen, done| {
@@ -160,7 +161,7 @@ fn kept_bits(register: Register) -> u8 {
 }
 
 /// Step 2: HMOVE by its clock and by the motion under way.
-fn hmove(table: &mut Table) {
+fn hmove(table: &mut Table<Seen>) {
     let clocks = [(0, 67), (68, 227), (0, 0), (67, 67), (68, 68), (227, 227)];
     for (first, last) in clocks {
         let name = format!("HMOVE at clocks {} to {}", first, last);
@@ -193,7 +194,7 @@ fn under_way(seen: &Seen) -> bool {
 
 /// Step 2: GRP0 and GRP1 copying a graphic, and GRP1 the ball's enable, that differs from the
 /// old one.
-fn graphics_copied(table: &mut Table) {
+fn graphics_copied(table: &mut Table<Seen>) {
     for player in [0, 1] {
         let other = 1 - player;
         let name = format!("GRP{} changes the old graphic of P{}", player, other);
@@ -210,7 +211,7 @@ fn graphics_copied(table: &mut Table) {
 }
 
 /// Step 3.
-fn blank(table: &mut Table) {
+fn blank(table: &mut Table<Seen>) {
     table.accepted(FEW, "blank below 68", |seen, done| {
         done.blank && seen.given.h < 68
     });
@@ -231,7 +232,7 @@ fn blank(table: &mut Table) {
 }
 
 /// Step 4 for all objects together.
-fn motion(table: &mut Table) {
+fn motion(table: &mut Table<Seen>) {
     for half_byte in 0..16 {
         let name = format!("comparison equal with half byte {}", half_byte);
         table.accepted(FEW, &name, move |_, done| {
@@ -254,7 +255,7 @@ fn motion(table: &mut Table) {
 }
 
 /// Step 4 for one object.
-fn motion_of(table: &mut Table, object: usize) {
+fn motion_of(table: &mut Table<Seen>, object: usize) {
     let of = NAMES[object];
     let name = format!("{}: comparison equal", of);
     table.accepted(FEW, &name, move |_, done| done.motion.equal[object]);
@@ -277,7 +278,7 @@ fn motion_of(table: &mut Table, object: usize) {
 }
 
 /// Step 4 for one object with its motion register or HMCLR written.
-fn motion_writes_of(table: &mut Table, object: usize) {
+fn motion_writes_of(table: &mut Table<Seen>, object: usize) {
     let of = NAMES[object];
     let registers: [(String, Register); 2] = [
         (format!("HM{}", of), Register::Motion(object)),
@@ -318,7 +319,7 @@ fn reached_start(seen: &Seen, done: &Done, object: usize) -> bool {
 }
 
 /// Step 6: the wrap of the position and the end of the age.
-fn pulses_of(table: &mut Table, object: usize) {
+fn pulses_of(table: &mut Table<Seen>, object: usize) {
     let of = NAMES[object];
     let name = format!("{}: position 159 goes to 0", of);
     table.accepted(FEW, &name, move |seen, done| {
@@ -338,7 +339,7 @@ fn pulses_of(table: &mut Table, object: usize) {
 }
 
 /// Step 6: each position that can be a start, reached with each copies.
-fn starts_of(table: &mut Table, object: usize) {
+fn starts_of(table: &mut Table<Seen>, object: usize) {
     for position in [0, 16, 32, 64] {
         let all_copies: Vec<Option<u8>> = match object {
             BL => vec![None],
@@ -381,7 +382,7 @@ fn start_name(object: usize, position: u8, copies: Option<u8>) -> String {
 }
 
 /// Step 6: each size taken by a player that held another.
-fn sizes_taken(table: &mut Table, player: usize) {
+fn sizes_taken(table: &mut Table<Seen>, player: usize) {
     for size in [1, 2, 4] {
         let name = format!("{}: size {} taken in place of another", NAMES[player], size);
         table.accepted(FEW, &name, move |seen, done| {
@@ -398,7 +399,7 @@ fn sizes_taken(table: &mut Table, player: usize) {
 }
 
 /// Step 7 for one object.
-fn strobes_of(table: &mut Table, object: usize) {
+fn strobes_of(table: &mut Table<Seen>, object: usize) {
     let of = NAMES[object];
     let name = format!("{}: strobe on a visible clock", of);
     table.accepted(FEW, &name, move |_, done| {
@@ -428,7 +429,7 @@ fn strobes_of(table: &mut Table, object: usize) {
 }
 
 /// Step 8: a player lit in an unblanked column at each size, reflected or not, by each VDELP.
-fn player_lit(table: &mut Table, player: usize) {
+fn player_lit(table: &mut Table<Seen>, player: usize) {
     let of = NAMES[player];
     for size in [1, 2, 4] {
         for reflected in [false, true] {
@@ -464,7 +465,7 @@ fn player_lit(table: &mut Table, player: usize) {
 
 /// Step 8: the first and last lit age of a player and the ages just outside, the graphic's bit
 /// at that end being 1.
-fn player_edges(table: &mut Table, player: usize) {
+fn player_edges(table: &mut Table<Seen>, player: usize) {
     for size in [1, 2, 4] {
         let last = 4 + 8 * size;
         for (age, at_first) in [(4, true), (5, true), (last, false), (last + 1, false)] {
@@ -488,7 +489,7 @@ fn player_edges(table: &mut Table, player: usize) {
 
 /// Step 8: a missile or the ball at each width: at a lit age enabled and not, and enabled at the
 /// first and last lit age and the ages just outside.
-fn missile_or_ball_lit(table: &mut Table, object: usize) {
+fn missile_or_ball_lit(table: &mut Table<Seen>, object: usize) {
     let of = NAMES[object];
     for wide in [1, 2, 4, 8] {
         let last = 3 + wide;
@@ -518,7 +519,7 @@ fn missile_or_ball_lit(table: &mut Table, object: usize) {
 }
 
 /// Step 8: the ball at a lit age by its new and by its old enable, the two differing.
-fn ball_enables(table: &mut Table) {
+fn ball_enables(table: &mut Table<Seen>) {
     for old in [false, true] {
         for on in [false, true] {
             let name = format!("BL: VDELBL {}, enables differing, lit {}", old, on);
@@ -535,19 +536,19 @@ fn ball_enables(table: &mut Table) {
 }
 
 /// Steps 8 and 9: each drawing register changing what is lit on the clock of its write.
-fn registers_read_at_this_clock(table: &mut Table) {
+fn registers_read_at_this_clock(table: &mut Table<Seen>) {
     for (_, name, register) in KNOWN {
         if register.is_for_drawing() {
             let name = format!("{} changes what is lit on the clock of its write", name);
             table.accepted(FEW, &name, move |seen, done| {
-                wrote(done, register) && !done.blank && done.write_changed_lit(seen.given)
+                wrote(done, register) && !done.blank && done.write_changed_lit(&seen.given)
             });
         }
     }
 }
 
 /// Step 9: each of the 20 playfield bits lit on the left, repeated and reflected.
-fn playfield(table: &mut Table) {
+fn playfield(table: &mut Table<Seen>) {
     for bit in 0..20 {
         let ways = [
             ("left", bit, None),
@@ -570,7 +571,7 @@ fn playfield(table: &mut Table) {
 }
 
 /// Step 10: each bit of the answer byte, and the bytes 128, 64 and 0.
-fn answer_bytes(table: &mut Table) {
+fn answer_bytes(table: &mut Table<Seen>) {
     for (bit, of) in NAMES.into_iter().enumerate() {
         let name = format!("answer bit {} for {}", bit, of);
         table.accepted(FEW, &name, move |_, done| {
@@ -584,7 +585,7 @@ fn answer_bytes(table: &mut Table) {
 }
 
 /// Step 10: each latch newly set, not set in a blank column, and set with CXCLR.
-fn latches(table: &mut Table) {
+fn latches(table: &mut Table<Seen>) {
     for (latch, (first, second)) in PAIRS.into_iter().enumerate() {
         let pair = format!("{}-{}", NAMES[first], NAMES[second]);
         let name = format!("{} newly latched", pair);
@@ -610,14 +611,14 @@ fn latches(table: &mut Table) {
 }
 
 /// Step 11.
-fn line_end(table: &mut Table) {
+fn line_end(table: &mut Table<Seen>) {
     table.accepted(FEW, "h goes from 227 to 0", |seen, done| {
         seen.given.h == 227 && done.state.h == 0
     });
 }
 
 /// What happens over several clocks of a walk.
-fn walks(table: &mut Table) {
+fn walks(table: &mut Table<Seen>) {
     let name = "walk: motion of an HMOVE completes";
     table.accepted(FEW, name, |seen, done| {
         after_hmove(seen) && seen.given.slot == 15 && done.state.slot == NO_MOTION
@@ -627,7 +628,7 @@ fn walks(table: &mut Table) {
         after_hmove(seen) && under_way(seen) && done.state.h == 0 && seen.given.h == 227
     });
     table.accepted(FEW, "walk: the start state given", |seen, _| {
-        seen.place.is_walk() && *seen.given == State::START
+        seen.place.is_walk() && seen.given == State::START
     });
     for refusal in [1, 7] {
         let name = format!("walk: clock refused with {}", refusal);

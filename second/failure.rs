@@ -1,12 +1,12 @@
-//! Why a command ends early: a write error, or cases that miss something they must hold.
+//! Why a command fails: a write error, or something missing or false.
 
 use std::io;
 
-/// The reason; the text names what is missing, a line each.
+/// The reason; the text names what is missing or false, a line each.
 #[derive(Debug, PartialEq, Eq)]
 pub enum Failure {
     WriteError,
-    Missing(String),
+    Named(String),
 }
 
 impl From<io::Error> for Failure {

@@ -1,5 +1,7 @@
 //! The command line of the second program: one command a report.
 
+mod bench;
+mod calls;
 mod cases;
 mod chip_cases;
 mod chip_report;
@@ -10,18 +12,32 @@ mod counter;
 mod counter_report;
 mod coverage;
 mod coverage_list;
+mod demand3;
+mod demand3_report;
+mod digest;
 mod failure;
 mod faults;
+mod first_lit;
+mod line;
+mod line_cases;
+mod line_coverage;
+mod line_faults;
+mod line_report;
 mod lit;
 mod object;
 mod random;
+mod random_lists;
 mod random_states;
 mod random_writes;
 mod refusal;
 mod registers;
+mod run_cases;
+mod run_coverage;
 mod single_cases;
+mod spoil;
 mod state_bytes;
 mod walk_cases;
+mod write_list;
 
 use failure::Failure;
 use std::env;
@@ -36,7 +52,7 @@ struct Command {
     write: fn(&mut dyn Write) -> Result<(), Failure>,
 }
 
-const COMMANDS: [Command; 3] = [
+const COMMANDS: [Command; 4] = [
     Command {
         name: "counter",
         prints: "the six-bit counter's answers for every byte",
@@ -44,13 +60,18 @@ const COMMANDS: [Command; 3] = [
     },
     Command {
         name: "chip_cases",
-        prints: "the case file of single clocks and walks (binary)",
+        prints: "the case file of single clocks, walks, lines and runs (binary)",
         write: chip_cases::write,
     },
     Command {
         name: "chip",
         prints: "the chip's answers for the cases of the case file",
         write: |out| Ok(chip_report::write(out)?),
+    },
+    Command {
+        name: "demand3",
+        prints: "how often demand 3 was checked on the runs of the case file",
+        write: demand3_report::write,
     },
 ];
 
@@ -71,12 +92,12 @@ fn usage() -> String {
     text
 }
 
-/// The exit status: 0 for a whole report, and for a write error, which only ends it; 1 for cases
-/// that miss something, which is named on the error output.
+/// The exit status: 0 for a whole report, and for a write error, which only ends it; 1 for
+/// something missing or false, which is named on the error output.
 fn status(written: Result<(), Failure>, errors: &mut dyn Write) -> u8 {
     match written {
         Ok(()) | Err(Failure::WriteError) => 0,
-        Err(Failure::Missing(text)) => {
+        Err(Failure::Named(text)) => {
             let _ = errors.write_all(text.as_bytes());
             1
         }
@@ -115,6 +136,7 @@ mod tests {
         assert_eq!(name_of(&["counter"]), Some("counter"));
         assert_eq!(name_of(&["chip_cases"]), Some("chip_cases"));
         assert_eq!(name_of(&["chip"]), Some("chip"));
+        assert_eq!(name_of(&["demand3"]), Some("demand3"));
         assert_eq!(name_of(&[]), None);
         assert_eq!(name_of(&[""]), None);
         assert_eq!(name_of(&["Counter"]), None);
@@ -133,11 +155,11 @@ mod tests {
     }
 
     #[test]
-    fn only_missing_things_fail_and_are_named() {
+    fn only_named_things_fail() {
         let cases = [
             (Ok(()), 0, ""),
             (Err(Failure::WriteError), 0, ""),
-            (Err(Failure::Missing("this\n".into())), 1, "this\n"),
+            (Err(Failure::Named("this\n".into())), 1, "this\n"),
         ];
         for (written, expected, text) in cases {
             let mut errors = Vec::new();

@@ -127,6 +127,39 @@ fn draw_slot(random: &mut Random, state: &mut State) {
     }
 }
 
+/// A good state with h = 0; every other time no motion is under way, at times the playfield is
+/// dark.
+pub fn line_start_state(random: &mut Random) -> State {
+    let mut state = if random.one_in(4) {
+        even_state(random)
+    } else {
+        edge_state(random)
+    };
+    state.h = 0;
+    if random.flag() {
+        without_motion(&mut state);
+    }
+    if random.one_in(6) {
+        darken_playfield(&mut state.registers);
+    }
+    state
+}
+
+/// Makes the playfield dark.
+pub fn darken_playfield(registers: &mut Registers) {
+    registers.pf0 = 0;
+    registers.pf1 = 0;
+    registers.pf2 = 0;
+}
+
+/// Makes a state one with no motion under way.
+pub fn without_motion(state: &mut State) {
+    state.slot = NO_MOTION;
+    for object in &mut state.objects {
+        object.live = false;
+    }
+}
+
 /// The state with the byte of a checked field replaced.
 pub fn with_field(state: &State, field: usize, byte: u8) -> State {
     let mut bytes = to_bytes(state);
@@ -137,10 +170,8 @@ pub fn with_field(state: &State, field: usize, byte: u8) -> State {
 /// The good state with no motion under way and then one live flag set.
 pub fn with_live_flag(state: &State, object: usize) -> State {
     let mut state = *state;
-    state.slot = NO_MOTION;
-    for (n, each) in state.objects.iter_mut().enumerate() {
-        each.live = n == object;
-    }
+    without_motion(&mut state);
+    state.objects[object].live = true;
     state
 }
 
@@ -180,6 +211,19 @@ mod tests {
             assert!(even_state(&mut random).check().is_ok());
             assert!(edge_state(&mut random).check().is_ok());
         }
+    }
+
+    #[test]
+    fn line_start_states_are_good_with_h_0_and_motion_under_way_or_not() {
+        let mut random = Random::new(15);
+        let mut without = 0;
+        for _ in 0..1000 {
+            let state = line_start_state(&mut random);
+            assert!(state.check().is_ok());
+            assert_eq!(state.h, 0);
+            without += u32::from(state.slot == NO_MOTION);
+        }
+        assert!((500..700).contains(&without), "{}", without);
     }
 
     #[test]

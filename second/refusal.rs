@@ -1,5 +1,7 @@
 //! A refusal: the number the scope paper gives it and the index of the record at fault.
 
+use std::fmt;
+
 /// A refused answer; the record's index counts from 0 within its line.
 #[derive(Clone, Copy, Debug, PartialEq, Eq)]
 pub struct Refusal {
@@ -14,6 +16,13 @@ impl Refusal {
     }
 }
 
+impl fmt::Display for Refusal {
+    /// Writes a refusal as it stands in a report.
+    fn fmt(&self, out: &mut fmt::Formatter<'_>) -> fmt::Result {
+        write!(out, "refused({},{})", self.number, self.record)
+    }
+}
+
 #[cfg(test)]
 mod tests {
     use super::*;
@@ -23,5 +32,14 @@ mod tests {
         let refusal = Refusal::without_record(10);
         assert_eq!(refusal.number, 10);
         assert_eq!(refusal.record, 0);
+    }
+
+    #[test]
+    fn a_refusal_shows_its_number_and_record() {
+        let refusal = Refusal {
+            number: 7,
+            record: 12,
+        };
+        assert_eq!(refusal.to_string(), "refused(7,12)");
     }
 }

@@ -1,7 +1,12 @@
-// A walk: 1,000 clocks from a state, with up to 64 timed writes.
+// The walks: 1,000 clocks from a state, with up to 64 timed writes; a row for each record.
 use crate::digest::with_byte;
 use crate::digest::with_bytes;
+use crate::output::hex;
+use crate::output::number;
+use crate::output::text;
 use crate::state_bytes::bytes_of;
+use crate::state_bytes::state_from;
+use libc::STDIN_FILENO;
 use tia::ClockAnswer;
 use tia::State;
 use tia::Write;
@@ -78,7 +83,7 @@ fn with_clock(digest: u32, answer: ClockAnswer) -> u32 {
 }
 
 // The digest of a walk's clocks from a state.
-pub(crate) fn digest_of(start: State, writes: &[u8; 192]) -> u32 {
+fn digest_of(start: State, writes: &[u8; 192]) -> u32 {
     let mut state = start;
     let mut cursor = Cursor::at(writes, 0);
     let mut digest = 0;
@@ -89,4 +94,28 @@ pub(crate) fn digest_of(start: State, writes: &[u8; 192]) -> u32 {
         cursor = cursor.passed(writes);
     }
     digest
+}
+
+// The row of a walk: its number and its digest.
+fn row(place: u32, record: &[u8; 64], writes: &[u8; 192]) {
+    text(b"walk ");
+    number(place);
+    text(b" ");
+    hex(digest_of(state_from(record), writes));
+    text(b"\n");
+}
+
+// A row for each of the 320 walks, as far as standard input goes.
+pub(crate) fn rows() {
+    for place in 0..320u32 {
+        let mut record = [0u8; 64];
+        let mut writes = [0u8; 192];
+        if io::read_full(STDIN_FILENO, &mut record) < 64 {
+            return;
+        }
+        if io::read_full(STDIN_FILENO, &mut writes) < 192 {
+            return;
+        }
+        row(place, &record, &writes);
+    }
 }

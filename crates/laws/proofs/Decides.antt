@@ -19,6 +19,13 @@ less a b = record { holds = ltb-true a b; fails = λ e h. omega (arith, ltb-fals
 pub equal : (a b : ℕ) → Decides (eqb a b) (a ≡ b)
 equal a b = record { holds = eqb-true a b; fails = eqb-false a b }
 
+pub differs : (a b : ℕ) → Decides (not (eqb a b)) (a ≡ b → ⊥)
+differs a b = by-test (eqb a b) (equal a b)
+  where
+    by-test : (test : Bool) → Decides test (a ≡ b) → Decides (not test) (a ≡ b → ⊥)
+    by-test true d = record { holds = λ e. absurd (true≢false (sym e)); fails = λ e no. no (d .holds refl) }
+    by-test false d = record { holds = λ e. d .fails refl; fails = λ e. absurd (true≢false e) }
+
 pub either : {P Q : Type 0} (a b : Bool) → Decides a P → Decides b Q → Decides (a || b) (P ⊎ Q)
 either true b p q = record { holds = λ e. inl (p .holds refl); fails = λ e. absurd (true≢false e) }
 either false b p q = record { holds = λ e. inr (q .holds e); fails = λ e. ⊎-elim (p .fails refl) (q .fails e) }

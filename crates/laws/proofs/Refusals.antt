@@ -82,3 +82,19 @@ open-to before none (c ∷ cs) ok =
 -- A chain of tests with different numbers gives them in the order of their rows.
 pub in-order : (cs : List {1} Check) → distinct cs ≡ true → GivenInOrder (rowsOf cs) (firstOf cs)
 in-order cs ok = open-to [] tt cs ok
+
+-- No other number is given so.
+first-after :
+    (before : List {1} Row) → NoneHolds before → (cs : List {1} Check) (n : ℕ) → GivenAfter before (rowsOf cs) n → n ≡ firstOf cs
+first-after before none [] n given = given .1 none
+first-after before none (c ∷ cs) n given =
+    by-test (c .test) (c .decides) (λ no. first-after (c .of ∷ before) no cs n (given .1))
+  where
+    by-test :
+        (b : Bool) → Decides b (c .of .when) → (NoneHolds (c .of ∷ before) → n ≡ firstOf cs) →
+        n ≡ cond b (c .of .number) (firstOf cs)
+    by-test true d later = given .0 .1 (none, d .holds refl)
+    by-test false d later = later (d .fails refl, none)
+
+pub only-first : (cs : List {1} Check) (n : ℕ) → GivenInOrder (rowsOf cs) n → n ≡ firstOf cs
+only-first cs n given = first-after [] tt cs n given

@@ -48,7 +48,7 @@ below-equal n f g t k h = eqb→eq (f k) (g k) (below n (λ k. eqb (f k) (g k)) 
 pub below-less : (n : ℕ) (f g : ℕ → ℕ) → T (everyBelow n (λ k. ltb (f k) (g k))) → (k : ℕ) → k < n → f k < g k
 below-less n f g t k h = ltb→lt (f k) (g k) (below n (λ k. ltb (f k) (g k)) t k h)
 
-same : (a b : Bool) → T (Bool·beq a b) → a ≡ b
+pub same : (a b : Bool) → T (Bool·beq a b) → a ≡ b
 same true true t = refl
 same true false t = absurd t
 same false true t = absurd t

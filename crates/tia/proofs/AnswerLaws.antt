@@ -1,12 +1,22 @@
 -- The answers by cases: what the code returns in each branch.
-use mathlib.Core.Path.{_≡_}
-use mathlib.Core.Bool.{true, false}
+use mathlib.Core.Path.{_≡_, refl}
+use mathlib.Core.Bool.{Bool, true, false, cond, not}
+use mathlib.Core.List.{List}
+use Prim.Native.Nat.{ℕ}
+use native.Mathlib.Omega.{arith}
+use borrow.Author.Tests.{eq-eqb, ne-eqb, eqb-true}
+use lib.Dec.{eqb}
+use lib.ListN.{length}
 use Rattle.tia.specs.declared.state.State.{State}
 use Rattle.tia.specs.declared.write.Write.{Write}
+use Rattle.tia.specs.declared.write_list.Fault.{Fault}
 use Rattle.tia.specs.Write.{unknown}
 use Rattle.tia.specs.State.{badState}
 use Rattle.tia.specs.Clock.{clockOf}
-use Rattle.tia.specs.Answers.{forBadState, forUnknownRegister, refusedClock, givenClock, clockAnswer, refusedReadOut, givenReadOut, readOutAnswer}
+use Rattle.tia.specs.Numbers.{forBadState, forLineClock, forBufferLength, forUnknownRegister}
+use Rattle.tia.specs.WriteList.{faultAt, listFault}
+use Rattle.tia.specs.Line.{lineOf, picture}
+use Rattle.tia.specs.Answers.{refusedClock, givenClock, clockAnswer, refusedReadOut, givenReadOut, readOutAnswer, lineFault, lineAnswer, lineBuffer, LinePromise}
 
 -- A clock from a bad state is refusal 1, ..
 pub clock-bad : (s : State) (w : Write) → badState s ≡ true → clockAnswer s w ≡ refusedClock forBadState s
@@ -33,3 +43,60 @@ read-out-bad s bad = rw bad
 pub read-out-given : (s : State) → badState s ≡ false → readOutAnswer s ≡ givenReadOut (s .latches)
 unfolding readOutAnswer
 read-out-given s good = rw good
+
+-- The first fault of a line call: state, line clock, buffer, or the list's.
+pub fault-bad : (s : State) (ws : List ℕ) (room : ℕ) → badState s ≡ true → lineFault s ws room ≡ faultAt forBadState 0
+unfolding lineFault
+fault-bad s ws room bad = rw bad
+
+module _ (s : State) (ws : List ℕ) (room : ℕ) (good : badState s ≡ false) where
+  pub fault-clock : (s .timing .h ≡ 0 → ⊥) → lineFault s ws room ≡ faultAt forLineClock 0
+  unfolding lineFault
+  fault-clock ne = rw (good, ne-eqb (s .timing .h) 0 ne)
+
+  pub fault-room : s .timing .h ≡ 0 → (room ≡ 160 → ⊥) → lineFault s ws room ≡ faultAt forBufferLength 0
+  unfolding lineFault
+  fault-room h ne = rw (good, eq-eqb (s .timing .h) 0 h, ne-eqb room 160 ne)
+
+  pub fault-list : s .timing .h ≡ 0 → room ≡ 160 → lineFault s ws room ≡ listFault ws
+  unfolding lineFault
+  fault-list h e = rw (good, eq-eqb (s .timing .h) 0 h, eq-eqb room 160 e)
+
+-- What a line call without fault shows.
+pub record NoFault (s : State) (ws : List ℕ) (room : ℕ) : Type 0 where
+  pub good : badState s ≡ false
+  pub clock : s .timing .h ≡ 0
+  pub full : room ≡ 160
+  pub list : listFault ws .number ≡ 0
+
+pub no-fault : (s : State) (ws : List ℕ) (room : ℕ) → lineFault s ws room .number ≡ 0 → NoFault s ws room
+unfolding lineFault
+no-fault s ws room = by-tests (badState s) (eqb (s .timing .h) 0) (eqb room 160) refl refl refl
+  where
+    by-tests :
+        (bad clock full : Bool) → badState s ≡ bad → eqb (s .timing .h) 0 ≡ clock → eqb room 160 ≡ full →
+        (cond bad (faultAt forBadState 0)
+        (cond (not clock) (faultAt forLineClock 0) (cond (not full) (faultAt forBufferLength 0) (listFault ws)))) .number ≡ 0 →
+        NoFault s ws room
+    by-tests true clock full b c f e = absurd (omega (arith, e))
+    by-tests false false full b c f e = absurd (omega (arith, e))
+    by-tests false true false b c f e = absurd (omega (arith, e))
+    by-tests false true true b c f e =
+        record { good = b; clock = eqb-true (s .timing .h) 0 c; full = eqb-true room 160 f; list = e }
+
+-- A line call with no fault gives the line, ..
+module _ (s : State) (ws buffer : List ℕ) (fault : Fault) (e : fault ≡ lineFault s ws (length buffer)) where
+  pub line-given :
+      (next : State) (after : List ℕ) → fault .number ≡ 0 → (next ≡ lineOf s ws .state) × (after ≡ picture (lineOf s ws)) →
+      LinePromise s ws buffer (record { number = fault .number; index = fault .index; state = next }) after
+  unfolding lineAnswer lineBuffer
+  line-given next after none line = (rw (← e, none, line .0), rw (← e, none, line .1))
+
+  -- .. and one with a fault gives the fault, the given state, and the buffer as it was.
+  pub line-refused :
+      (fault .number ≡ 0 → ⊥) →
+      LinePromise s ws buffer (record { number = fault .number; index = fault .index; state = s }) buffer
+  unfolding lineAnswer lineBuffer
+  line-refused bad =
+      let refused = ne-eqb (fault .number) 0 bad in
+      (rw (← e, refused), rw (← e, refused))

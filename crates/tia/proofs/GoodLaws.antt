@@ -19,7 +19,8 @@ use Rattle.tia.specs.State.{timingInRange, objectsInRange, inRange, anyL
 use Rattle.tia.specs.Timing.{timingWritten, comparing, tickOf, timingAfter}
 use Rattle.tia.specs.Object.{equalSlot, objectWritten, objectMoved, objectAfter, playerAfter, missileAfter, ballAfter}
 use Rattle.tia.specs.Clock.{objectsAfter, clockOf}
-use Rattle.tia.specs.Answers.{forUnknownRegister, refusedClock, givenClock, clockAnswer}
+use Rattle.tia.specs.Numbers.{forUnknownRegister}
+use Rattle.tia.specs.Answers.{refusedClock, givenClock, clockAnswer}
 use Rattle.tia.proofs.StateLaws.{good-in-range, good-rest, good-by}
 use Rattle.tia.proofs.RangeLaws.{registers-stay, objects-stay, timing-stays}
 
@@ -35,7 +36,7 @@ rest-live true false false equal slot never rest e = refl
 rest-live false true live equal slot never rest e = absurd (omega arith)
 rest-live false false live equal slot never rest e = rw (rest e)
 
-hmove-waits : (w : Write) (t : Timing) → hits w HMOVE ≡ true → comparing w t ≡ false
+pub hmove-waits : (w : Write) (t : Timing) → hits w HMOVE ≡ true → comparing w t ≡ false
 hmove-waits w t e = rw (e, and-false, and-false)
 
 -- The clock's tick from a state's timing.
@@ -63,14 +64,14 @@ object-rests strobe hm copies w t o rest e =
     e
 
 -- What a failed "any live" shows of each object.
-record NoneLive (os : Objects) : Type 0 where
-  p0 : os .p0 .body .live ≡ false
-  p1 : os .p1 .body .live ≡ false
-  m0 : os .m0 .live ≡ false
-  m1 : os .m1 .live ≡ false
-  bl : os .bl .live ≡ false
+pub record NoneLive (os : Objects) : Type 0 where
+  pub p0 : os .p0 .body .live ≡ false
+  pub p1 : os .p1 .body .live ≡ false
+  pub m0 : os .m0 .live ≡ false
+  pub m1 : os .m1 .live ≡ false
+  pub bl : os .bl .live ≡ false
 
-none-live : (os : Objects) → anyLive os ≡ false → NoneLive os
+pub none-live : (os : Objects) → anyLive os ≡ false → NoneLive os
 none-live os e =
     let from1 = or-second (os .p0 .body .live) _ e in
     let missiles = or-second (os .p1 .body .live) _ from1 in

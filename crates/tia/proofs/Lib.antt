@@ -1,10 +1,27 @@
--- The laws of the chip.
+-- The laws of the chip, and the cases that are proved by running its definitions.
+pub mod AcceptLaws
 pub mod AnswerLaws
-pub mod CaseProofs
+pub mod CursorLaws
+pub mod Demand3Laws
+pub mod DrawLaws
+pub mod FirstBadLaws
+pub mod FirstLitLaws
 pub mod GoodLaws
+pub mod LineLaws
 pub mod LitLaws
 pub mod MotionLaws
+pub mod MoveLaws
+pub mod PhaseLaws
+pub mod PremiseLaws
+pub mod QuietLaws
 pub mod RangeLaws
+pub mod ReckonLaws
 pub mod RefusalLaws
+pub mod RisingLaws
+pub mod RunLaws
+pub mod ScanlineLaws
 pub mod StateLaws
+pub mod TableProofs
+pub mod TrackLaws
+pub mod TurnLaws
 pub mod WriteLaws

@@ -1,18 +1,31 @@
 -- The refusals of the public calls are given exactly when their rows of the table hold, in their order.
-use mathlib.Core.Path.{_≡_, refl}
-use mathlib.Core.List.{[], _∷_}
+use mathlib.Core.Path.{_≡_, _∙_, refl, ap}
+use mathlib.Core.List.{List, [], _∷_}
 use mathlib.Core.Bool.{Bool, true, false, cond, not}
+use Prim.Native.Nat.{ℕ, suc, _%_, _≤_}
+use native.Mathlib.Omega.{arith}
+use borrow.Author.Tests.{ne-eqb}
+use lib.Dec.{eqb, ltb}
+use lib.ListN.{length}
 use Rattle.laws.specs.Refusal.{GivenInOrder}
-use Rattle.laws.proofs.Decides.{Decides, either, passes, misses}
-use Rattle.laws.proofs.Refusals.{check, in-order}
+use Rattle.laws.proofs.Decides.{Decides, less, differs, either, passes, misses}
+use Rattle.laws.proofs.Refusals.{Check, check, firstOf, in-order}
 use Rattle.tia.specs.declared.clock.Clocked.{Clocked}
+use Rattle.tia.specs.declared.first_lit.FirstLit.{FirstLit}
+use Rattle.tia.specs.declared.first_lit.FirstLit.the-variants.{Column, Refused}
 use Rattle.tia.specs.declared.latches.Latches.{Latches}
 use Rattle.tia.specs.declared.state.State.{State}
 use Rattle.tia.specs.declared.write.Write.{Write}
+use Rattle.tia.specs.declared.write_list.Fault.{Fault}
 use Rattle.tia.specs.Write.{unknown}
 use Rattle.tia.specs.State.{inRange, liveAtRest, badState}
 use Rattle.tia.specs.Clock.{clockOf}
-use Rattle.tia.specs.Answers.{forBadState, forUnknownRegister, badStateRow, unknownRegisterRow, refusedClock, givenClock, clockAnswer, refusedReadOut, givenReadOut, readOutAnswer}
+use Rattle.tia.specs.Numbers.{forBadState, forLineClock, forBufferLength, forListLength, forClockOver, forClockOrder, forUnknownRegister, forNoSuchObject}
+use Rattle.tia.specs.WriteList.{TimedWrite, recordsOf, badLength, firstFault, faultAt, listFault}
+use Rattle.tia.specs.FirstLit.{shows, firstFrom, firstLitOf, columnAnswer}
+use Rattle.tia.specs.Answers.{badStateRow, unknownRegisterRow, refusedClock, givenClock, clockAnswer, refusedReadOut, givenReadOut, readOutAnswer, lineFault, lineAnswer, lineBuffer}
+use Rattle.tia.specs.LineRows.{IndexGiven, lineRows, firstLitRows}
+use Rattle.tia.proofs.FirstBadLaws.{list-decided, fault-number, list-index}
 
 -- The state check decides row 1.
 bad-decided : (s : State) → Decides (badState s) (badStateRow s .when)
@@ -48,3 +61,108 @@ pub read-out-refused-exactly : (s : State) → GivenInOrder (badStateRow s ∷ [
 unfolding readOutAnswer
 read-out-refused-exactly s =
     rw (read-out-number (badState s) (s .latches)) (in-order (check forBadState (badState s) (bad-decided s) ∷ []) refl)
+
+-- The tests of a line call, in their order.
+abbrev lineChecks : State → List ℕ → (room : ℕ) → List {1} Check
+lineChecks s ws room =
+    let number = firstFault 0 0 (recordsOf ws) .number in
+    check forBadState (badState s) (bad-decided s)
+    ∷ check forLineClock (not (eqb (s .timing .h) 0)) (differs (s .timing .h) 0)
+    ∷ check forBufferLength (not (eqb room 160)) (differs room 160)
+    ∷ check forListLength (badLength (length ws)) (either _ _ (differs (length ws % 3) 0) (less 684 (length ws)))
+    ∷ check forClockOver (eqb number forClockOver) (list-decided (recordsOf ws) forClockOver (λ e. omega (arith, e)))
+    ∷ check forClockOrder (eqb number forClockOrder) (list-decided (recordsOf ws) forClockOrder (λ e. omega (arith, e)))
+    ∷ check forUnknownRegister (eqb number forUnknownRegister) (list-decided (recordsOf ws) forUnknownRegister (λ e. omega (arith, e)))
+    ∷ []
+
+fault-by-tests :
+    (bad clock full list : Bool) (later : Fault) →
+    (cond bad (faultAt forBadState 0)
+    (cond clock (faultAt forLineClock 0) (cond full (faultAt forBufferLength 0) (cond list (faultAt forListLength 0) later)))) .number
+    ≡ cond bad forBadState (cond clock forLineClock (cond full forBufferLength (cond list forListLength (later .number))))
+fault-by-tests true clock full list later = refl
+fault-by-tests false true full list later = refl
+fault-by-tests false false true list later = refl
+fault-by-tests false false false true later = refl
+fault-by-tests false false false false later = refl
+
+line-number : (s : State) (ws : List ℕ) (room : ℕ) → lineAnswer s ws room .number ≡ firstOf (lineChecks s ws room)
+unfolding lineAnswer lineFault listFault
+line-number s ws room =
+    fault-by-tests
+    (badState s)
+    (not (eqb (s .timing .h) 0))
+    (not (eqb room 160))
+    (badLength (length ws))
+    (firstFault 0 0 (recordsOf ws))
+    ∙ ap
+    (λ (n : ℕ).
+    cond (badState s) forBadState
+    (cond (not (eqb (s .timing .h) 0)) forLineClock
+    (cond (not (eqb room 160)) forBufferLength (cond (badLength (length ws)) forListLength n))))
+    (fault-number 0 0 (recordsOf ws))
+
+-- A line call refuses by rows 1 to 7, and nothing else.
+pub line-refused-exactly : (s : State) (ws : List ℕ) (room : ℕ) → GivenInOrder (lineRows s ws room) (lineAnswer s ws room .number)
+line-refused-exactly s ws room = rw (line-number s ws room) (in-order (lineChecks s ws room) refl)
+
+-- The index of a fault of rows 1 to 4 is 0.
+earlier-index :
+    (rs : List TimedWrite) (b : Bool) (n : ℕ) (later : Fault) → n ≤ 4 → IndexGiven rs (later .number) (later .index) →
+    IndexGiven rs ((cond b (faultAt n 0) later) .number) ((cond b (faultAt n 0) later) .index)
+earlier-index rs true n later few given = (λ h. refl, λ i many. absurd (omega arith))
+earlier-index rs false n later few given = given
+
+-- The index is 0 with the numbers 0 to 4, and with 5, 6 and 7 exactly that of the first bad record.
+pub line-index-exactly :
+    (s : State) (ws : List ℕ) (room : ℕ) → IndexGiven (recordsOf ws) (lineAnswer s ws room .number) (lineAnswer s ws room .index)
+unfolding lineAnswer lineFault listFault
+line-index-exactly s ws room =
+    let rs = recordsOf ws in
+    earlier-index rs (badState s) forBadState _ (omega arith)
+    (earlier-index rs (not (eqb (s .timing .h) 0)) forLineClock _ (omega arith)
+    (earlier-index rs (not (eqb room 160)) forBufferLength _ (omega arith)
+    (earlier-index rs (badLength (length ws)) forListLength _ (omega arith) (list-index rs))))
+
+-- A refused line call hands back the given state and leaves the buffer.
+pub refused-line-state :
+    (s : State) (ws : List ℕ) (room : ℕ) → (lineAnswer s ws room .number ≡ 0 → ⊥) → lineAnswer s ws room .state ≡ s
+unfolding lineAnswer
+refused-line-state s ws room refused = rw (ne-eqb (lineFault s ws room .number) 0 refused)
+
+pub refused-line-buffer :
+    (s : State) (ws buffer : List ℕ) → (lineAnswer s ws (length buffer) .number ≡ 0 → ⊥) → lineBuffer s ws buffer ≡ buffer
+unfolding lineAnswer lineBuffer
+refused-line-buffer s ws buffer refused = rw (ne-eqb (lineFault s ws (length buffer) .number) 0 refused)
+
+-- The search refuses nothing.
+search-number : (object x : ℕ) (bytes : List ℕ) → columnAnswer (firstFrom object x bytes) .number ≡ 0
+unfolding firstFrom
+search-number object x [] = refl
+search-number object x (byte ∷ bytes) = by-test (shows object byte) (search-number object (suc x) bytes)
+  where
+    by-test :
+        (b : Bool) → columnAnswer (firstFrom object (suc x) bytes) .number ≡ 0 →
+        columnAnswer (cond b (Column x) (firstFrom object (suc x) bytes)) .number ≡ 0
+    by-test true later = refl
+    by-test false later = later
+
+column-number :
+    (room over : Bool) (found : FirstLit) → columnAnswer found .number ≡ 0 →
+    columnAnswer (cond room (Refused forBufferLength) (cond over (Refused forNoSuchObject) found)) .number
+    ≡ cond room forBufferLength (cond over forNoSuchObject 0)
+column-number true over found none = refl
+column-number false true found none = refl
+column-number false false found none = none
+
+-- The first lit column refuses by row 3, then row 10, and nothing else.
+pub first-lit-refused-exactly :
+    (buffer : List ℕ) (object : ℕ) → GivenInOrder (firstLitRows buffer object) (columnAnswer (firstLitOf buffer object) .number)
+unfolding firstLitOf
+first-lit-refused-exactly buffer object =
+    rw (column-number (not (eqb (length buffer) 160)) (ltb 5 object) (firstFrom object 0 buffer) (search-number object 0 buffer))
+    (in-order
+    (check forBufferLength (not (eqb (length buffer) 160)) (differs (length buffer) 160)
+    ∷ check forNoSuchObject (ltb 5 object) (less 5 object)
+    ∷ [])
+    refl)

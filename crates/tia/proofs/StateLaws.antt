@@ -8,6 +8,7 @@ use Rattle.laws.proofs.Bools.{and-first, and-second, or-neither, or-first, or-s
 use Rattle.tia.specs.declared.registers.Graphic.{Graphic}
 use Rattle.tia.specs.declared.registers.Registers.{Registers}
 use Rattle.tia.specs.declared.state.State.{State}
+use Rattle.tia.specs.declared.timing.Timing.{Timing}
 use Rattle.tia.specs.State.{timingInRange, playerInRange, objectsInRange, nusizInRange, playfieldInRange, graphicInRange, registersInRange, inRange, anyLive, liveAtRest, badState, startState}
 
 -- A graphic of bytes is in range.
@@ -42,12 +43,18 @@ good-in-range s good = by-test (inRange s) (or-first (not (inRange s)) (liveAtRe
     by-test true e = refl
     by-test false e = absurd (true≢false e)
 
--- .. so its h is at most 227 and its slot at most 16, ..
-pub good-timing : (s : State) → badState s ≡ false → (s .timing .h ≤ 227) × (s .timing .slot ≤ 16)
+-- .. so its timing is, ..
+pub good-in-time : (s : State) → badState s ≡ false → timingInRange (s .timing) ≡ true
 unfolding inRange
-good-timing s good =
-    let t = and-first (timingInRange (s .timing)) _ (good-in-range s good) in
-    (leb-true (s .timing .h) 227 (and-first (leb (s .timing .h) 227) _ t), leb-true (s .timing .slot) 16 (and-second (leb (s .timing .h) 227) _ t))
+good-in-time s good = and-first (timingInRange (s .timing)) _ (good-in-range s good)
+
+-- .. with h at most 227 and the slot at most 16, ..
+pub in-time : (t : Timing) → timingInRange t ≡ true → (t .h ≤ 227) × (t .slot ≤ 16)
+in-time t ok =
+    (leb-true (t .h) 227 (and-first (leb (t .h) 227) _ ok), leb-true (t .slot) 16 (and-second (leb (t .h) 227) _ ok))
+
+pub good-timing : (s : State) → badState s ≡ false → (s .timing .h ≤ 227) × (s .timing .slot ≤ 16)
+good-timing s good = in-time (s .timing) (good-in-time s good)
 
 -- .. and with slot 16 it has no live flag.
 pub good-rest : (s : State) → badState s ≡ false → s .timing .slot ≡ 16 → anyLive (s .objects) ≡ false

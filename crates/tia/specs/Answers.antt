@@ -2,28 +2,29 @@
 use Prim.Native.Nat.{ℕ}
 use mathlib.Core.Path.{_≡_}
 use mathlib.Core.Logic.{_⊎_}
-use mathlib.Core.Bool.{true, false, cond}
-use lib.ListN.{replicate}
+use mathlib.Core.Bool.{true, false, cond, not}
+use mathlib.Core.List.{List}
+use lib.Dec.{eqb}
+use lib.ListN.{length, replicate}
 use Rattle.laws.specs.Refusal.{Row, row}
 use Rattle.tia.specs.declared.clock.Clocked.{Clocked}
 use Rattle.tia.specs.declared.answers.ClockAnswer.{ClockAnswer}
 use Rattle.tia.specs.declared.answers.ReadOut.{ReadOut}
+use Rattle.tia.specs.declared.line_call.LineAnswer.{LineAnswer}
 use Rattle.tia.specs.declared.latches.Latches.{Latches}
 use Rattle.tia.specs.declared.state.State.{State}
 use Rattle.tia.specs.declared.write.Write.{Write}
+use Rattle.tia.specs.declared.write_list.Fault.{Fault}
 use Rattle.tia.specs.Write.{unknown}
 use Rattle.tia.specs.State.{inRange, liveAtRest, badState}
+use Rattle.tia.specs.Numbers.{forBadState, forLineClock, forBufferLength, forUnknownRegister}
+use Rattle.tia.specs.Object.{columns}
 use Rattle.tia.specs.Latches.{readOut}
 use Rattle.tia.specs.Clock.{clockOf}
+use Rattle.tia.specs.WriteList.{faultAt, listFault}
+use Rattle.tia.specs.Line.{lineOf, picture}
 
--- Refusal 1: a state field is outside its range, or a live flag is set with slot 16. Refusal 7: unknown register.
-abbrev pub forBadState : ℕ
-forBadState = 1
-
-abbrev pub forUnknownRegister : ℕ
-forUnknownRegister = 7
-
--- Their rows of the refusal table.
+-- Rows 1 and 7 of the refusal table.
 abbrev pub badStateRow : State → Row
 badStateRow s = row forBadState ((inRange s ≡ false) ⊎ (liveAtRest s ≡ true))
 
@@ -51,3 +52,24 @@ givenReadOut x = record { number = 0; index = 0; bytes = readOut x }
 
 unfoldable pub readOutAnswer : State → ReadOut
 readOutAnswer s = cond (badState s) (refusedReadOut forBadState) (givenReadOut (s .latches))
+
+-- The first fault of a line call: refusals 1, 2, 3, then those of the list, 4 and 5 to 7.
+unfoldable pub lineFault : State → List ℕ → (room : ℕ) → Fault
+lineFault s ws room =
+    cond (badState s) (faultAt forBadState 0)
+    (cond (not (eqb (s .timing .h) 0)) (faultAt forLineClock 0)
+    (cond (not (eqb room columns)) (faultAt forBufferLength 0) (listFault ws)))
+
+-- A line call's answer: the number, the record's index, and the next state; where it is refused, the given one.
+unfoldable pub lineAnswer : State → List ℕ → (room : ℕ) → LineAnswer
+lineAnswer s ws room =
+    let fault = lineFault s ws room in
+    record { number = fault .number; index = fault .index; state = cond (eqb (fault .number) 0) (lineOf s ws .state) s }
+
+-- The lent buffer after the call: the line's picture; where it is refused, as it was.
+unfoldable pub lineBuffer : State → List ℕ → List ℕ → List ℕ
+lineBuffer s ws buffer = cond (eqb (lineFault s ws (length buffer) .number) 0) (picture (lineOf s ws)) buffer
+
+-- What the line call promises of its answer and of the buffer as it returns.
+abbrev pub LinePromise : (state : State) (writes buffer : List ℕ) (answer : LineAnswer) (after : List ℕ) → Type 0
+LinePromise state writes buffer answer after = (answer ≡ lineAnswer state writes (length buffer)) × (after ≡ lineBuffer state writes buffer)

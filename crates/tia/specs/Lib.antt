@@ -1,4 +1,4 @@
--- The kit's chip, in document 01's order: its registers, its state, one clock; then the answers of the public calls.
+-- The kit's chip, in document 01's order: its registers, its state, one clock, a line; then the answers of the public calls.
 pub mod Write
 pub mod Registers
 pub mod State
@@ -9,5 +9,15 @@ pub mod Lit
 pub mod Playfield
 pub mod Latches
 pub mod Clock
+pub mod Numbers
+pub mod WriteList
+pub mod Line
+pub mod Cursor
+pub mod FirstLit
 pub mod Answers
+pub mod LineRows
+pub mod Movable
+pub mod Run
+pub mod Demand3
 pub mod Cases
+pub mod RunCases

@@ -1,9 +1,14 @@
--- The signed motion value of a half byte.
-use Prim.Native.Nat.{ℕ}
+-- The signed motion value of a half byte, and the remainder that turns a position by a sum of them.
+use Prim.Native.Nat.{ℕ, _-_, _%_}
 use mathlib.Core.Bool.{cond}
 use lib.Dec.{ltb}
-use lib.IntN.{ℤ, pos, _-ℤ_}
+use lib.IntN.{ℤ, pos, negsuc, _-ℤ_}
 
 -- Half bytes 8 to 15 mean -8 to -1.
 unfoldable pub signed : ℕ → ℤ
 signed m = cond (ltb m 8) (pos m) (pos m -ℤ pos 16)
+
+-- The remainder of an integer modulo 160, never negative.
+unfoldable pub mod160 : ℤ → ℕ
+mod160 (pos n) = n % 160
+mod160 (negsuc n) = 159 - n % 160

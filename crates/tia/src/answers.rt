@@ -2,13 +2,10 @@
 ghost use mathlib.Core.Path.{_≡_};
 ghost use Rattle.tia.specs.Answers.{refusedClock, clockAnswer, readOutAnswer};
 use crate::clock::steps;
+use crate::refusal::BAD_STATE;
+use crate::refusal::UNKNOWN_REGISTER;
 use crate::state::State;
 use crate::write::Write;
-
-// Refusal 1: a bad state. Refusal 7: an unknown register.
-const BAD_STATE: u8 = 1;
-
-const UNKNOWN_REGISTER: u8 = 7;
 
 // The answer of a clock: refusal number (0: accepted), index of the record at fault, next state and answer byte.
 pub struct ClockAnswer {

@@ -1,21 +1,29 @@
-// The kit's TIA: the chip's state, one colour clock, and the collision read-out.
+// The kit's TIA: the chip's state, one colour clock, a line, the collision read-out, and the first lit column.
 mod answers;
 mod choose;
 mod clock;
+mod first_lit;
 mod latches;
+mod line_call;
 mod lit;
 mod object;
 mod playfield;
+mod refusal;
 mod registers;
 mod state;
 mod timing;
 mod write;
+mod write_list;
 
 pub use answers::ClockAnswer;
 pub use answers::ReadOut;
 pub use answers::colour_clock;
 pub use answers::read_out;
+pub use first_lit::FirstLit;
+pub use first_lit::first_lit_column;
 pub use latches::Latches;
+pub use line_call::LineAnswer;
+pub use line_call::line;
 pub use object::Object;
 pub use object::Player;
 pub use playfield::Playfield;

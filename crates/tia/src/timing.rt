@@ -7,7 +7,7 @@ use crate::write::HMOVE;
 use crate::write::Write;
 
 // The clocks of a line, those of its horizontal blank, and those of one that HMOVE makes longer.
-const CLOCKS: u8 = 228;
+pub(crate) const CLOCKS: u8 = 228;
 
 pub(crate) const BLANK: u8 = 68;
 

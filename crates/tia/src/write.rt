@@ -116,7 +116,7 @@ impl Write {
 }
 
 // Whether a register has this address.
-fn is_known(address: u8) -> bool
+pub(crate) fn is_known(address: u8) -> bool
     ensures { λ r. ⌜ r ≡ known address ⌝ }
 {
     ((NUSIZ0 <= address) & (address <= NUSIZ1))

@@ -1,4 +1,4 @@
--- `with_bytes` is safe and ends.
+-- `with_bytes` is safe and ends: it takes each byte of the slice once.
 use lib.ListN.{length}
 use borrow.Author.Needs.{needs}
 use Prim.Native.Nat.{_≤_, _-_}
@@ -16,9 +16,6 @@ loop-holds c = search needs
 
 shared-slice-read-with-byte : tie.Need-shared-slice-read-with-byte Inv-loop μ-loop
 shared-slice-read-with-byte c = search needs
-
-with-byte-requires : tie.Need-with-byte-requires Inv-loop μ-loop
-with-byte-requires c κs = search needs
 
 add-i : tie.Need-add-i Inv-loop μ-loop
 add-i c = search needs
@@ -40,7 +37,7 @@ with-bytes-spec =
     μ-loop
     loop-holds
     shared-slice-read-with-byte
-    with-byte-requires
+    (λ c κs. tt)
     add-i
     loop-less
     loop-again

@@ -10,20 +10,11 @@ Inv-loop writes state₀ cursor₀ digest₀ counter₀ state cursor digest coun
 abbrev μ-loop : tie.MeasureT-loop
 μ-loop writes state₀ cursor₀ digest₀ counter₀ state cursor digest counter = 1000 - counter
 
-at-requires : tie.Need-at-requires Inv-loop μ-loop
-at-requires c κs = search needs
-
 loop-holds : tie.Need-loop-holds Inv-loop μ-loop
 loop-holds c = search needs
 
 due-requires : tie.Need-due-requires Inv-loop μ-loop
 due-requires c κs = search needs
-
-colour-clock-requires : tie.Need-colour-clock-requires Inv-loop μ-loop
-colour-clock-requires c κs = search needs
-
-with-clock-requires : tie.Need-with-clock-requires Inv-loop μ-loop
-with-clock-requires c κs = search needs
 
 passed-requires : tie.Need-passed-requires Inv-loop μ-loop
 passed-requires c κs = search needs
@@ -46,11 +37,11 @@ digest-of-spec =
     (tie.spec
     Inv-loop
     μ-loop
-    at-requires
+    (λ c κs. tt)
     loop-holds
     due-requires
-    colour-clock-requires
-    with-clock-requires
+    (λ c κs. tt)
+    (λ c κs. tt)
     passed-requires
     add-counter
     loop-less

@@ -1,8 +1,8 @@
--- `hex_bytes` is safe and ends.
+-- `hex_bytes` is safe and ends: it prints eight bytes.
 use borrow.Author.Needs.{needs}
 use Prim.Native.Nat.{_≤_, _-_}
-use Rattle.chip_report.proofs.hex_bytes.Statement.{statement}
-use Rattle.chip_report.proofs.hex_bytes.Tie as tie
+use Rattle.chip_report.proofs.output.hex_bytes.Statement.{statement}
+use Rattle.chip_report.proofs.output.hex_bytes.Tie as tie
 
 abbrev Inv-loop : tie.InvT-loop
 Inv-loop bytes i₀ i = i ≤ 8
@@ -18,9 +18,6 @@ array-read-print-hex c = search needs
 
 cast-print-hex : tie.Need-cast-print-hex Inv-loop μ-loop
 cast-print-hex c = search needs
-
-print-hex-requires : tie.Need-print-hex-requires Inv-loop μ-loop
-print-hex-requires c κs = search needs
 
 add-i : tie.Need-add-i Inv-loop μ-loop
 add-i c = search needs
@@ -43,7 +40,7 @@ hex-bytes-spec =
     loop-holds
     array-read-print-hex
     cast-print-hex
-    print-hex-requires
+    (λ c κs. tt)
     add-i
     loop-less
     loop-again

@@ -1,0 +1,45 @@
+// What the case file has for a line call: the length of its list, the list, and the buffer before the call.
+ghost use Prim.Native.Nat.{_≤_};
+ghost use lib.ListN.{length};
+use libc::STDIN_FILENO;
+
+// The longest list.
+pub(crate) const LONGEST: usize = 699;
+
+// A length of two bytes, the higher first; at most the longest.
+pub(crate) fn length_of(high: u8, low: u8) -> usize
+    ensures { λ r. ⌜ r ≤ 699 ⌝ }
+{
+    let length = high as usize * 256 + low as usize;
+    if length < LONGEST { length } else { LONGEST }
+}
+
+// The length of a buffer, of one byte.
+pub(crate) fn lent_of(byte: u8) -> usize
+    ensures { λ r. ⌜ r ≤ 255 ⌝ }
+{
+    byte as usize
+}
+
+// Reads so many bytes to the start of a room.
+pub(crate) fn read_part(room: &mut [u8], count: usize)
+    requires { ⌜ count ≤ length (now room) ⌝ }
+{
+    io::read_full(STDIN_FILENO, &mut room[0..count]);
+}
+
+// The byte after a byte, 255 going to 0.
+fn next(byte: u8) -> u8 {
+    if byte < 255 { byte + 1 } else { 0 }
+}
+
+// Fills a buffer with bytes that rise from the first one.
+pub(crate) fn fill(buffer: &mut [u8], first: u8) {
+    let mut byte = first;
+    let mut i = 0;
+    while i < buffer.len() {
+        buffer[i] = byte;
+        byte = next(byte);
+        i += 1;
+    }
+}

@@ -1,0 +1,75 @@
+// The line calls: a row for each record.
+use crate::call::fill;
+use crate::call::length_of;
+use crate::call::lent_of;
+use crate::call::read_part;
+use crate::digest::with_bytes;
+use crate::output::decimal;
+use crate::output::hex;
+use crate::output::number;
+use crate::output::text;
+use crate::state_bytes::bytes_of;
+use crate::state_bytes::state_from;
+use libc::STDIN_FILENO;
+use tia::FirstLit;
+
+// The first lit column of an object: the column, `-` or the refusal.
+fn column(buffer: &[u8], object: u8) {
+    text(b" ");
+    let answer = tia::first_lit_column(buffer, object);
+    match answer {
+        FirstLit::Column(x) => number(x as u32),
+        FirstLit::Unlit => text(b"-"),
+        FirstLit::Refused(n) => {
+            text(b"refused(");
+            number(n as u32);
+            text(b",0)");
+        }
+    }
+}
+
+// The first lit columns of the objects 0 to 6, and what object 255 is answered.
+fn columns(buffer: &[u8]) {
+    for object in 0..7u8 {
+        column(buffer, object);
+    }
+    column(buffer, 255);
+}
+
+// The row of a line: its answer, the digests of its state and its buffer, and the first lit columns.
+fn row(record: &[u8; 64], list: &[u8], buffer: &mut [u8], first: u8) {
+    fill(buffer, first);
+    let answer = tia::line(state_from(record), list, buffer);
+    let state = answer.state;
+    text(b"line ");
+    decimal(answer.number);
+    decimal(answer.index);
+    hex(with_bytes(0, &bytes_of(state)));
+    text(b" ");
+    hex(with_bytes(0, buffer));
+    columns(buffer);
+    text(b"\n");
+}
+
+// A row for each of the 3,200 line calls, as far as standard input goes.
+pub(crate) fn rows() {
+    for place in 0..3200u32 {
+        let mut record = [0u8; 64];
+        if io::read_full(STDIN_FILENO, &mut record) < 64 {
+            return;
+        }
+        let mut space = [0u8; 699];
+        let length = length_of(record[62], record[63]);
+        read_part(&mut space, length);
+        let list: &[u8] = &space;
+        let mut room = [0u8; 255];
+        let buffer: &mut [u8] = &mut room;
+        let lent = lent_of(record[61]);
+        row(
+            &record,
+            &list[0..length],
+            &mut buffer[0..lent],
+            (place % 256) as u8,
+        );
+    }
+}

@@ -1,0 +1,92 @@
+// The runs: 24 line calls in a chain, two without writes before and after the 20 of the record; a row for each record.
+use crate::call::fill;
+use crate::call::length_of;
+use crate::call::lent_of;
+use crate::call::read_part;
+use crate::digest::with_byte;
+use crate::digest::with_bytes;
+use crate::output::hex;
+use crate::output::number;
+use crate::output::text;
+use crate::state_bytes::bytes_of;
+use crate::state_bytes::state_from;
+use libc::STDIN_FILENO;
+use tia::State;
+
+// A run so far: the digest of its calls, and the state.
+struct Run {
+    digest: u32,
+    state: State,
+}
+
+impl Run {
+    // The run after one more call.
+    fn called(self, list: &[u8], buffer: &mut [u8], first: u8) -> Run {
+        fill(buffer, first);
+        let answer = tia::line(self.state, list, buffer);
+        let state = answer.state;
+        let verdict = with_byte(with_byte(self.digest, answer.number), answer.index);
+        let states = with_bytes(verdict, &bytes_of(state));
+        Run {
+            digest: with_bytes(states, buffer),
+            state,
+        }
+    }
+
+    // The run after one more call of the record.
+    fn read(self, first: u8) -> Run {
+        let mut lengths = [0u8; 3];
+        io::read_full(STDIN_FILENO, &mut lengths);
+        let mut space = [0u8; 699];
+        let length = length_of(lengths[1], lengths[2]);
+        read_part(&mut space, length);
+        let list: &[u8] = &space;
+        let mut room = [0u8; 255];
+        let buffer: &mut [u8] = &mut room;
+        let lent = lent_of(lengths[0]);
+        self.called(&list[0..length], &mut buffer[0..lent], first)
+    }
+
+    // The run after a call without writes.
+    fn quiet(self, first: u8) -> Run {
+        let mut room = [0u8; 160];
+        self.called(b"", &mut room, first)
+    }
+}
+
+// The digest of a run's calls from a state.
+fn digest_of(start: State, place: u32) -> u32 {
+    let mut run = Run {
+        digest: 0,
+        state: start,
+    };
+    for call in 0..24u32 {
+        let first = ((place % 256 + call) % 256) as u8;
+        if (call < 2) | (call >= 22) {
+            run = run.quiet(first);
+        } else {
+            run = run.read(first);
+        }
+    }
+    run.digest
+}
+
+// The row of a run: its number and its digest.
+fn row(place: u32, record: &[u8; 64]) {
+    text(b"run ");
+    number(place);
+    text(b" ");
+    hex(digest_of(state_from(record), place));
+    text(b"\n");
+}
+
+// A row for each of the 300 runs, as far as standard input goes.
+pub(crate) fn rows() {
+    for place in 0..300u32 {
+        let mut record = [0u8; 64];
+        if io::read_full(STDIN_FILENO, &mut record) < 64 {
+            return;
+        }
+        row(place, &record);
+    }
+}

@@ -1,0 +1,49 @@
+// The single clocks: a row for each record.
+use crate::digest::with_bytes;
+use crate::output::decimal;
+use crate::output::hex;
+use crate::output::hex_bytes;
+use crate::output::text;
+use crate::state_bytes::bytes_of;
+use crate::state_bytes::state_from;
+use libc::STDIN_FILENO;
+use tia::Write;
+
+// The write of a single clock's record.
+fn write_of(record: &[u8; 64]) -> Write {
+    if record[61] == 0 {
+        return Write::Nothing;
+    }
+    Write::Register {
+        address: record[62],
+        value: record[63],
+    }
+}
+
+// The row of a single clock: its answer, the digest of its state, and that state's read-out.
+fn row(record: &[u8; 64]) {
+    let answer = tia::colour_clock(state_from(record), write_of(record));
+    let state = answer.state;
+    let out = tia::read_out(state);
+    let bytes = out.bytes;
+    decimal(answer.number);
+    decimal(answer.index);
+    decimal(answer.byte);
+    hex(with_bytes(0, &bytes_of(state)));
+    text(b" ");
+    decimal(out.number);
+    decimal(out.index);
+    hex_bytes(bytes);
+    text(b"\n");
+}
+
+// A row for each of the 3,200 single clocks, as far as standard input goes.
+pub(crate) fn rows() {
+    for _ in 0..3200u32 {
+        let mut record = [0u8; 64];
+        if io::read_full(STDIN_FILENO, &mut record) < 64 {
+            return;
+        }
+        row(&record);
+    }
+}

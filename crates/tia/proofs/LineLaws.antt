@@ -1,0 +1,64 @@
+-- A line clock by clock: the state before each clock, and the answer byte of each.
+use mathlib.Core.Path.{_≡_, _∙_, refl, sym, ap}
+use mathlib.Core.List.{List}
+use Prim.Native.Nat.{ℕ, zero, suc, _+_, _<_}
+use native.Mathlib.Nat.{add-zero, zero-add, add-suc, suc-add, le-of-suc-le-suc, not-suc-le-zero}
+use native.Mathlib.Omega.{arith}
+use lib.ListN.{length, getD, length-drop}
+use lib.Seq.{getD-drop}
+use Rattle.tia.specs.declared.state.State.{State}
+use Rattle.tia.specs.declared.write.Write.{Write}
+use Rattle.tia.specs.Clock.{clockOf}
+use Rattle.tia.specs.WriteList.{recordsOf, writeAt}
+use Rattle.tia.specs.Line.{clocksFrom, lineOf, picture}
+
+-- The state before clock n, from the state before clock 0, and the answer byte of clock n.
+unfoldable pub stateAt : (ℕ → Write) → State → ℕ → State
+stateAt writes s zero = s
+stateAt writes s (suc n) = clockOf (stateAt writes s n) (writes n) .state
+
+abbrev pub byteAt : (ℕ → Write) → State → ℕ → ℕ
+byteAt writes s n = clockOf (stateAt writes s n) (writes n) .byte
+
+-- The clocks from n on start from the state before it.
+state-after :
+    (writes : ℕ → Write) (s : State) (count n : ℕ) →
+    clocksFrom writes n count (stateAt writes s n) .state ≡ stateAt writes s (n + count)
+unfolding clocksFrom stateAt
+state-after writes s zero n = rw add-zero
+state-after writes s (suc count) n =
+    state-after writes s count (suc n) ∙ ap (stateAt writes s) (suc-add n count ∙ sym (add-suc n count))
+
+byte-of :
+    (writes : ℕ → Write) (s : State) (count n i : ℕ) → i < count →
+    getD (clocksFrom writes n count (stateAt writes s n) .bytes) i 0 ≡ byteAt writes s (n + i)
+unfolding clocksFrom stateAt
+byte-of writes s zero n i h = absurd (not-suc-le-zero h)
+byte-of writes s (suc count) n zero h = rw add-zero
+byte-of writes s (suc count) n (suc i) h =
+    byte-of writes s count (suc n) i (le-of-suc-le-suc h) ∙ ap (byteAt writes s) (suc-add n i ∙ sym (add-suc n i))
+
+count-of : (writes : ℕ → Write) (count n : ℕ) (s : State) → length (clocksFrom writes n count s .bytes) ≡ count
+unfolding clocksFrom
+count-of writes zero n s = refl
+count-of writes (suc count) n s = ap suc (count-of writes count (suc n) (clockOf s (writes n) .state))
+
+-- The line's write on each clock.
+abbrev pub writesOf : List ℕ → ℕ → Write
+writesOf ws = writeAt (recordsOf ws)
+
+-- A line is its clocks: its state is that after clock 227, ..
+pub line-state : (s : State) (ws : List ℕ) → lineOf s ws .state ≡ stateAt (writesOf ws) s 228
+unfolding lineOf stateAt
+line-state s ws = state-after (writesOf ws) s 228 0
+
+-- .. and column x has the answer byte of clock 68 + x.
+pub line-byte : (s : State) (ws : List ℕ) (x : ℕ) → x < 160 → getD (picture (lineOf s ws)) x 0 ≡ byteAt (writesOf ws) s (68 + x)
+unfolding lineOf stateAt
+line-byte s ws x h =
+    getD-drop 68 (lineOf s ws .bytes) x 0 ∙ byte-of (writesOf ws) s 228 0 (68 + x) (omega arith)
+    ∙ ap (byteAt (writesOf ws) s) (zero-add (68 + x))
+
+pub line-length : (s : State) (ws : List ℕ) → length (picture (lineOf s ws)) ≡ 160
+unfolding lineOf
+line-length s ws = length-drop 68 (lineOf s ws .bytes) ∙ rw (count-of (writesOf ws) 228 0 s)

@@ -1,0 +1,45 @@
+-- The first lit column of an object in a line's answer bytes.
+use Prim.Native.Nat.{ℕ, suc}
+use mathlib.Core.Bool.{Bool, cond, true, false, _&&_, not}
+use mathlib.Core.List.{List, [], _∷_}
+use lib.Dec.{eqb, ltb}
+use lib.ListN.{length, getD}
+use Rattle.laws.specs.Bits.{bit}
+use Rattle.tia.specs.declared.first_lit.FirstLit.{FirstLit}
+use Rattle.tia.specs.declared.first_lit.FirstLit.the-variants.{Column, Unlit, Refused}
+use Rattle.tia.specs.Object.{columns}
+use Rattle.tia.specs.Numbers.{forBufferLength, forNoSuchObject}
+
+-- Objects are 0 to 5: P0, P1, M0, M1, BL, PF. An answer byte shows one if it has bits 6 and 7 clear and that object's bit set.
+unfoldable pub shows : (object byte : ℕ) → Bool
+shows object byte = (not (bit 6 byte) && not (bit 7 byte)) && bit object byte
+
+-- Column x of a line's answer bytes shows an object.
+abbrev pub showsAt : (object : ℕ) → List ℕ → ℕ → Bool
+showsAt object bytes x = shows object (getD bytes x 0)
+
+-- The smallest column whose byte shows it, or none; columns are counted from x.
+unfoldable pub firstFrom : (object x : ℕ) → List ℕ → FirstLit
+firstFrom object x [] = Unlit
+firstFrom object x (byte ∷ bytes) =
+    let later = firstFrom object (suc x) bytes in
+    cond (shows object byte) (Column x) later
+
+-- Refusal 3, then 10, then the column.
+unfoldable pub firstLitOf : List ℕ → ℕ → FirstLit
+firstLitOf buffer object =
+    cond (not (eqb (length buffer) columns)) (Refused forBufferLength)
+    (cond (ltb 5 object) (Refused forNoSuchObject) (firstFrom object 0 buffer))
+
+-- The paper's numbers for each case: the refusal number (0: not refused), the index of the record at fault, whether a column
+-- is lit, and which.
+pub record ColumnAnswer : Type 0 where
+  pub number : ℕ
+  pub index : ℕ
+  pub lit : Bool
+  pub column : ℕ
+
+abbrev pub columnAnswer : FirstLit → ColumnAnswer
+columnAnswer (Column x) = record { number = 0; index = 0; lit = true; column = x }
+columnAnswer Unlit = record { number = 0; index = 0; lit = false; column = 0 }
+columnAnswer (Refused n) = record { number = n; index = 0; lit = false; column = 0 }

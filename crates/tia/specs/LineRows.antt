@@ -1,0 +1,65 @@
+-- What is said of the line call's refusals and of the first lit column: the rows of the table, the first bad record, the
+-- smallest column.
+use Prim.Native.Nat.{ℕ, zero, suc, _+_, _%_, _≤_, _<_}
+use mathlib.Core.Path.{_≡_}
+use mathlib.Core.Logic.{_⊎_, _↔_}
+use mathlib.Core.Bool.{true, false}
+use mathlib.Core.List.{List, [], _∷_}
+use lib.ListN.{length}
+use Rattle.laws.specs.Refusal.{Row, row, GivenInOrder}
+use Rattle.tia.specs.declared.first_lit.FirstLit.{FirstLit}
+use Rattle.tia.specs.declared.first_lit.FirstLit.the-variants.{Column, Unlit, Refused}
+use Rattle.tia.specs.declared.state.State.{State}
+use Rattle.tia.specs.Write.{known}
+use Rattle.tia.specs.Numbers.{forLineClock, forBufferLength, forListLength, forClockOver, forClockOrder, forUnknownRegister, forNoSuchObject}
+use Rattle.tia.specs.WriteList.{TimedWrite, recordsOf}
+use Rattle.tia.specs.FirstLit.{showsAt}
+use Rattle.tia.specs.Answers.{badStateRow}
+
+-- Rows 5, 6 and 7 for one record. The least clock is 0 for the first record, later one above the clock before.
+abbrev pub recordRows : (least : ℕ) → TimedWrite → List {1} Row
+recordRows least r =
+    row forClockOver (227 < r .clock)
+    ∷ row forClockOrder (r .clock < least)
+    ∷ row forUnknownRegister (known (r .address) ≡ false)
+    ∷ []
+
+-- Record i is the first bad one, and row n is the one that refuses it.
+abbrev pub FirstBad : (least : ℕ) → List TimedWrite → (n i : ℕ) → Type 0
+FirstBad least [] n i = ⊥
+FirstBad least (r ∷ rs) n zero = GivenInOrder (recordRows least r) n × (n ≡ 0 → ⊥)
+FirstBad least (r ∷ rs) n (suc i) = GivenInOrder (recordRows least r) 0 × FirstBad (r .clock + 1) rs n i
+
+-- The index that goes with a number: 0 with 0 to 4, and with 5, 6 and 7 that of the first bad record.
+abbrev pub IndexGiven : List TimedWrite → (number index : ℕ) → Type 0
+IndexGiven rs number index = (number ≤ 4 → index ≡ 0) × ((i : ℕ) → 4 < number → (index ≡ i) ↔ FirstBad 0 rs number i)
+
+-- Row n, of 5, 6 and 7, for a list: it refuses the first bad record.
+abbrev pub listRow : ℕ → List ℕ → Row
+listRow n ws = row n ((i : ℕ) × FirstBad 0 (recordsOf ws) n i)
+
+-- Rows 1 to 7 for a line call with a buffer of so much room.
+abbrev pub lineRows : State → List ℕ → (room : ℕ) → List {1} Row
+lineRows s ws room =
+    badStateRow s
+    ∷ row forLineClock (s .timing .h ≡ 0 → ⊥)
+    ∷ row forBufferLength (room ≡ 160 → ⊥)
+    ∷ row forListLength ((length ws % 3 ≡ 0 → ⊥) ⊎ (684 < length ws))
+    ∷ listRow forClockOver ws
+    ∷ listRow forClockOrder ws
+    ∷ listRow forUnknownRegister ws
+    ∷ []
+
+-- Rows 3 and 10 for the first lit column.
+abbrev pub firstLitRows : List ℕ → (object : ℕ) → List {1} Row
+firstLitRows buffer object = row forBufferLength (length buffer ≡ 160 → ⊥) ∷ row forNoSuchObject (5 < object) ∷ []
+
+-- No column below x shows the object.
+abbrev pub DarkBelow : List ℕ → (object x : ℕ) → Type 0
+DarkBelow buffer object x = (y : ℕ) → y < x → showsAt object buffer y ≡ false
+
+-- A column that is found is the smallest of the 160 that shows the object; where none is found, none shows it.
+abbrev pub Smallest : List ℕ → (object : ℕ) → FirstLit → Type 0
+Smallest buffer object (Column x) = (x < 160) × ((showsAt object buffer x ≡ true) × DarkBelow buffer object x)
+Smallest buffer object Unlit = DarkBelow buffer object 160
+Smallest buffer object (Refused n) = Unit {0}

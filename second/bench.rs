@@ -1,0 +1,223 @@
+//! The bench checks of the paper that concern lines: the writes of each line, run one after
+//! another from the start state.
+
+use crate::write_list::{records_of, ListedWrite};
+
+/// The lines of a check, each with the records of its write list.
+pub type Lines = Vec<Vec<ListedWrite>>;
+
+/// Missile 0 enabled and strobed at a clock; the next line shows it.
+fn missile_strobed(strobe: u8) -> Lines {
+    vec![records_of(&[(0, 0x1D, 2), (strobe, 0x12, 0)]), vec![]]
+}
+
+/// Ball enabled at 0 and strobed at 100: this line shows it.
+fn ball_strobed() -> Lines {
+    vec![records_of(&[(0, 0x1F, 2), (100, 0x14, 0)])]
+}
+
+/// Player 0 with graphic 255 written at 0 and strobed at 100; the next line shows it.
+fn player_strobed() -> Lines {
+    vec![records_of(&[(0, 0x1B, 255), (100, 0x10, 0)]), vec![]]
+}
+
+/// The same with copies 3 written at 101: this line shows copies, the next the main one too.
+fn copies_after_strobe() -> Lines {
+    let writes = [(0, 0x1B, 255), (100, 0x10, 0), (101, 0x04, 3)];
+    vec![records_of(&writes), vec![]]
+}
+
+/// Missile 0 strobed at a clock, shown, then moved by HMOVE at a clock with a half byte; the two
+/// lines after it show where it is.
+fn missile_moved(strobe: u8, hmove: u8, half_byte: u8) -> Lines {
+    let mut lines = missile_strobed(strobe);
+    lines.push(records_of(&[(0, 0x22, half_byte << 4), (hmove, 0x2A, 0)]));
+    lines.extend([vec![], vec![]]);
+    lines
+}
+
+/// HMOVE at 9 with the playfield lit: columns 0 to 7 hold 64; the next line has no blank columns.
+fn blank_columns() -> Lines {
+    vec![records_of(&[(0, 0x0D, 255), (9, 0x2A, 0)]), vec![]]
+}
+
+/// Missile 0 at column 36 over the playfield, and CXCLR at a clock of the next line.
+fn cxclr_at(clock: u8) -> Lines {
+    let writes = [(0, 0x1D, 2), (1, 0x0E, 255), (2, 0x0F, 255), (100, 0x12, 0)];
+    vec![records_of(&writes), records_of(&[(clock, 0x2C, 0)])]
+}
+
+/// The lines of the tape that the listing's example reads.
+fn listed_tape() -> Lines {
+    vec![
+        records_of(&[(0, 0x1D, 2), (30, 0x12, 0)]),
+        vec![],
+        records_of(&[(0, 0x22, 0x70), (9, 0x2A, 0)]),
+        vec![],
+    ]
+}
+
+/// Every check.
+pub fn checks() -> Vec<Lines> {
+    let mut checks = vec![
+        missile_strobed(30),
+        missile_strobed(100),
+        ball_strobed(),
+        player_strobed(),
+        copies_after_strobe(),
+        missile_moved(30, 9, 7),
+        blank_columns(),
+        cxclr_at(103),
+        cxclr_at(104),
+        cxclr_at(105),
+        listed_tape(),
+    ];
+    for half_byte in [7, 15, 8] {
+        checks.push(missile_moved(100, 9, half_byte));
+    }
+    for (hmove, half_byte) in [(15, 7), (16, 7), (67, 0), (68, 0), (227, 0)] {
+        checks.push(missile_moved(100, hmove, half_byte));
+    }
+    checks
+}
+
+#[cfg(test)]
+mod tests {
+    use super::*;
+    use crate::calls::{play_chain, Call, Played};
+    use crate::chip_state::State;
+    use crate::collisions::read_out;
+    use crate::first_lit::{first_lit, shows};
+
+    /// The calls of a check, played from the start state.
+    fn play(lines: &Lines) -> Vec<Played> {
+        let calls: Vec<Call> = lines.iter().map(|line| Call::with(line)).collect();
+        let played = play_chain(&State::START, &calls, 0);
+        for each in &played {
+            assert_eq!((each.answer.number, each.answer.record), (0, 0));
+        }
+        played
+    }
+
+    /// The columns of each line in which an object is lit.
+    fn columns(lines: &Lines, object: u8) -> Vec<Vec<usize>> {
+        let lit = |played: &Played| {
+            (0..160)
+                .filter(|&x| shows(played.buffer[x], object))
+                .collect()
+        };
+        play(lines).iter().map(lit).collect()
+    }
+
+    /// The columns of each line that hold 64.
+    fn blank(lines: &Lines) -> Vec<Vec<usize>> {
+        let blank = |played: &Played| (0..160).filter(|&x| played.buffer[x] == 64).collect();
+        play(lines).iter().map(blank).collect()
+    }
+
+    /// The columns from a first to a last.
+    fn span(first: usize, last: usize) -> Vec<usize> {
+        (first..=last).collect()
+    }
+
+    #[test]
+    fn missile_strobed_at_30_and_100() {
+        assert_eq!(columns(&missile_strobed(30), 2)[1], [3]);
+        assert_eq!(columns(&missile_strobed(100), 2)[1], [36]);
+    }
+
+    #[test]
+    fn ball_strobed_at_100_shows_on_that_same_line() {
+        assert_eq!(columns(&ball_strobed(), 4)[0], [36]);
+    }
+
+    #[test]
+    fn player_strobed_at_100_shows_on_the_next_line() {
+        let columns = columns(&player_strobed(), 0);
+        assert_eq!(columns[0], []);
+        assert_eq!(columns[1], span(37, 44));
+    }
+
+    #[test]
+    fn copies_3_written_after_the_strobe_show_no_main_copy_on_this_line() {
+        let columns = columns(&copies_after_strobe(), 0);
+        let copies = [span(53, 60), span(69, 76)].concat();
+        assert_eq!(columns[0], copies);
+        assert_eq!(columns[1], [span(37, 44), copies].concat());
+    }
+
+    #[test]
+    fn missile_moved_by_hmove_at_9() {
+        for (half_byte, column) in [(7, 29), (15, 37), (8, 44)] {
+            let columns = columns(&missile_moved(100, 9, half_byte), 2);
+            assert_eq!(columns[1], [36]);
+            assert_eq!(columns[2..], [[column]; 3]);
+        }
+        let columns = columns(&missile_moved(30, 9, 7), 2);
+        assert_eq!(columns[1], [3]);
+        assert_eq!(columns[2..], [[156]; 3]);
+    }
+
+    #[test]
+    fn missile_moved_by_hmove_at_15_16_67_68_and_227() {
+        let cases = [
+            (15, 7, 29),
+            (16, 7, 30),
+            (67, 0, 42),
+            (68, 0, 36),
+            (227, 0, 28),
+        ];
+        for (hmove, half_byte, column) in cases {
+            let lines = missile_moved(100, hmove, half_byte);
+            for line in [3, 4] {
+                assert_eq!(columns(&lines, 2)[line], [column]);
+                assert_eq!(blank(&lines)[line], []);
+            }
+            let blank_columns = if hmove < 68 { span(0, 7) } else { vec![] };
+            assert_eq!(blank(&lines)[2], blank_columns);
+        }
+    }
+
+    #[test]
+    fn hmove_at_9_blanks_columns_0_to_7_of_its_line() {
+        assert_eq!(blank(&blank_columns()), [span(0, 7), vec![]]);
+        let playfield = columns(&blank_columns(), 5);
+        assert_eq!(playfield[0], [span(8, 15), span(80, 95)].concat());
+        assert_eq!(playfield[1], [span(0, 15), span(80, 95)].concat());
+    }
+
+    #[test]
+    fn cxclr_with_an_overlap_leaves_that_pair_latched() {
+        for (clock, fifth) in [(103, 0x80), (104, 0x80), (105, 0x00)] {
+            let played = play(&cxclr_at(clock));
+            assert!(shows(played[1].buffer[36], 2) && shows(played[1].buffer[36], 5));
+            let bytes = read_out(&played[1].answer.state);
+            assert_eq!(bytes, Ok([0, 0, 0, 0, fifth, 0, 0, 0]));
+        }
+    }
+
+    #[test]
+    fn the_listings_example() {
+        let played = play(&listed_tape());
+        for object in 0..6 {
+            let columns: Vec<Option<usize>> = played
+                .iter()
+                .map(|played| first_lit(&played.buffer, object).unwrap())
+                .collect();
+            let expected = match object {
+                2 => [None, Some(3), Some(156), Some(156)],
+                _ => [None; 4],
+            };
+            assert_eq!(columns, expected);
+        }
+        assert_eq!(read_out(&played[3].answer.state), Ok([0; 8]));
+    }
+
+    #[test]
+    fn every_check_is_among_all() {
+        assert_eq!(checks().len(), 19);
+        for check in checks() {
+            assert!(play(&check).len() <= 20);
+        }
+    }
+}
