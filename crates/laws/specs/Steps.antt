@@ -4,7 +4,7 @@ use mathlib.Core.Bool.{cond}
 use lib.Dec.{eqb}
 
 -- The value after n steps of f.
-unfoldable pub after : (ℕ → ℕ) → ℕ → ℕ → ℕ
+unfoldable pub after : {A : Type 0} → (A → A) → ℕ → A → A
 after f zero x = x
 after f (suc n) x = f (after f n x)
 

@@ -1,11 +1,12 @@
 -- A line clock by clock: the state before each clock, and the answer byte of each.
 use mathlib.Core.Path.{_≡_, _∙_, refl, sym, ap}
 use mathlib.Core.List.{List}
-use Prim.Native.Nat.{ℕ, zero, suc, _+_, _<_}
+use Prim.Native.Nat.{ℕ, zero, suc, _+_, _<_, _≤_}
 use native.Mathlib.Nat.{add-zero, zero-add, add-suc, suc-add, le-of-suc-le-suc, not-suc-le-zero}
 use native.Mathlib.Omega.{arith}
 use lib.ListN.{length, getD, length-drop}
 use lib.Seq.{getD-drop}
+use Rattle.laws.specs.Steps.{after}
 use Rattle.tia.specs.declared.state.State.{State}
 use Rattle.tia.specs.declared.write.Write.{Write}
 use Rattle.tia.specs.Clock.{clockOf}
@@ -17,8 +18,29 @@ unfoldable pub stateAt : (ℕ → Write) → State → ℕ → State
 stateAt writes s zero = s
 stateAt writes s (suc n) = clockOf (stateAt writes s n) (writes n) .state
 
+pub state-first : (writes : ℕ → Write) (s : State) → stateAt writes s 0 ≡ s
+unfolding stateAt
+state-first writes s = refl
+
 abbrev pub byteAt : (ℕ → Write) → State → ℕ → ℕ
 byteAt writes s n = clockOf (stateAt writes s n) (writes n) .byte
+
+-- What every clock of some kind keeps, with a value that each moves on, holds after k of them from clock n on.
+pub over-clocks :
+    {A : Type 0} (Holds : State → A → Type 0) (next : A → A) (Kind : Write → Type 0) →
+    ((s : State) (w : Write) (a : A) → Kind w → Holds s a → Holds (clockOf s w .state) (next a)) →
+    (writes : ℕ → Write) (s : State) (a : A) (n k : ℕ) → ((i : ℕ) → n ≤ i → i < n + k → Kind (writes i)) →
+    Holds (stateAt writes s n) a → Holds (stateAt writes s (n + k)) (after next k a)
+unfolding after stateAt
+over-clocks Holds next Kind step writes s a n zero kinds holds = rw add-zero holds
+over-clocks Holds next Kind step writes s a n (suc k) kinds holds =
+    rw (add-suc n k)
+    (step
+    (stateAt writes s (n + k))
+    (writes (n + k))
+    (after next k a)
+    (kinds (n + k) (omega arith) (omega arith))
+    (over-clocks Holds next Kind step writes s a n k (λ i l h. kinds i l (omega arith)) holds))
 
 -- The clocks from n on start from the state before it.
 state-after :

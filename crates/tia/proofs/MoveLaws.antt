@@ -7,6 +7,7 @@ use native.Mathlib.Nat.{zero-add}
 use native.Mathlib.Omega.{arith}
 use borrow.Author.Tests.{lt-ltb, eqb-true}
 use lib.Dec.{T, eqb}
+use Rattle.laws.specs.Steps.{after}
 use Rattle.laws.proofs.Bools.{and-first, and-second, is-true, not-true, or-cases}
 use Rattle.laws.proofs.Table.{everyBelow, below}
 use Rattle.tia.specs.declared.state.State.{State}
@@ -19,9 +20,9 @@ use Rattle.tia.specs.Clock.{clockOf}
 use Rattle.tia.specs.Movable.{Movable, P0, P1, M0, M1, BL, motionOf, strobeOf, motionRegisterOf}
 use Rattle.tia.specs.Timing.{timingWritten}
 use Rattle.tia.proofs.GoodLaws.{hmove-waits}
-use Rattle.tia.proofs.LineLaws.{stateAt}
+use Rattle.tia.proofs.LineLaws.{stateAt, state-first}
 use Rattle.tia.proofs.TrackLaws.{Track, trackOf, trackNext, timingNext, pulsedOn, resting, clock-track, Undisturbed}
-use Rattle.tia.proofs.PhaseLaws.{Rest, restNext, restAfter, stepped, Idle, idle-step, idle-phase, Moving, movingNext, movingAfter, OnTrack, moving-phase}
+use Rattle.tia.proofs.PhaseLaws.{Rest, restNext, stepped, Idle, idle-step, idle-phase, Moving, movingNext, OnTrack, moving-phase}
 
 -- At the start of a line, and of a motion.
 abbrev pub atStart : Bool → Rest
@@ -32,35 +33,35 @@ movingFrom h m =
     record { track = record { timing = record { h = h; slot = 0; late = true }; motion = m; live = true }; pulses = 0 }
 
 -- A line without HMOVE has 160 pulses: computed.
-line-at-rest : (late : Bool) → restAfter 228 (atStart late) ≡ record { h = 0; late = false; pulses = 160 }
-unfolding restAfter restNext
+line-at-rest : (late : Bool) → after restNext 228 (atStart late) ≡ record { h = 0; late = false; pulses = 160 }
+unfolding after restNext
 line-at-rest true = refl
 line-at-rest false = refl
 
 -- Up to clock 15 none: computed.
 isEarly : ℕ → Bool → Bool
-isEarly c late = eqb (restAfter c (atStart late) .h) c && eqb (restAfter c (atStart late) .pulses) 0
+isEarly c late = eqb (after restNext c (atStart late) .h) c && eqb (after restNext c (atStart late) .pulses) 0
 
 early : T (everyBelow 16 (λ c. isEarly c true && isEarly c false))
-unfolding isEarly restAfter restNext
+unfolding isEarly after restNext
 early = tt
 
 -- From clock 77 with a late blank 151: computed.
-rest-of-line : restAfter 151 (record { h = 77; late = true; pulses = 0 }) ≡ record { h = 0; late = true; pulses = 151 }
-unfolding restAfter restNext
+rest-of-line : after restNext 151 (record { h = 77; late = true; pulses = 0 }) ≡ record { h = 0; late = true; pulses = 151 }
+unfolding after restNext
 rest-of-line = refl
 
 -- Clocks c + 1 to 75 of a motion give as many extra pulses as the compared value says; its last slot is then the next, or it
 -- has ended: computed for every clock and every half byte.
 isMoved : (c motion : ℕ) → Bool
 isMoved c m =
-    let end = movingAfter (75 - c) (movingFrom (c + 1) m) in
+    let end = after movingNext (75 - c) (movingFrom (c + 1) m) in
     let t = end .track .timing in
     eqb (end .pulses) (compareValue m)
     && (eqb (t .h) 76 && (t .late && (eqb (t .slot) 15 || (eqb (t .slot) 16 && not (end .track .live)))))
 
 all-moved : T (everyBelow 16 (λ c. everyBelow 16 (λ m. isMoved c m)))
-unfolding isMoved movingAfter movingNext trackNext timingNext pulsedOn
+unfolding isMoved after movingNext trackNext timingNext pulsedOn
 all-moved = tt
 
 -- HMOVE in the horizontal blank starts a motion with the object's motion value, without a pulse.
@@ -210,10 +211,10 @@ at-last pulses value h slot motion late live t =
           (or-cases (eqb slot 15) _ (and-second late _ from-late));
     }
 
-moved-at : (c m : ℕ) → c < 16 → m < 16 → AtLast (movingAfter (75 - c) (movingFrom (c + 1) m)) (compareValue m)
+moved-at : (c m : ℕ) → c < 16 → m < 16 → AtLast (after movingNext (75 - c) (movingFrom (c + 1) m)) (compareValue m)
 unfolding isMoved
 moved-at c m early half =
-    let end = movingAfter (75 - c) (movingFrom (c + 1) m) in
+    let end = after movingNext (75 - c) (movingFrom (c + 1) m) in
     let t = end .track .timing in
     at-last (end .pulses) (compareValue m) (t .h) (t .slot) (end .track .motion) (t .late) (end .track .live)
     (below 16 (λ m. isMoved c m) (below 16 (λ c. everyBelow 16 (λ m. isMoved c m)) all-moved c early) m half)
@@ -236,7 +237,7 @@ until-move o writes s p c late m idle =
     (hmove-step o (stateAt writes s c) (writes c) p rest (rw at-clock (omega (arith, m .early))) without (m .move) (m .unstrobed c) here)
   where
     rest : Rest
-    rest = restAfter c (atStart late)
+    rest = after restNext c (atStart late)
 
     passed : (b : Bool) → T (isEarly c true && isEarly c false) → (isEarly c b) ≡ true
     passed true t = and-first (isEarly c true) (isEarly c false) (is-true _ t)
@@ -270,7 +271,7 @@ until-last o writes s p c m half w moves =
     (last .timing))
   where
     end : Moving
-    end = movingAfter (75 - c) (movingFrom (c + 1) m)
+    end = after movingNext (75 - c) (movingFrom (c + 1) m)
 
     last : AtLast end (compareValue m)
     last = moved-at c m (omega (arith, w .early)) (omega arith)
@@ -305,15 +306,10 @@ moved-line o writes s p c late m half idle =
     (m .unstrobed)
     (until-last o writes s p c (motionOf o (stateAt writes s c)) half m (until-move o writes s p c late m idle)))
 
--- The state before clock 0.
-before-line : (o : Movable) (writes : ℕ → Write) (s : State) (p : ℕ) (r : Rest) → Idle o s p r → Idle o (stateAt writes s 0) p r
-unfolding stateAt
-before-line o writes s p r idle = idle
-
 -- A line without HMOVE: at its end the object is at rest, after 160 pulses.
 pub unmoved-line :
     (o : Movable) (writes : ℕ → Write) (s : State) (p : ℕ) (late : Bool) → ((i : ℕ) → hits (writes i) HMOVE ≡ false) →
     ((i : ℕ) → hits (writes i) (strobeOf o) ≡ false) → Idle o s p (atStart late) →
     Idle o (stateAt writes s 228) p (record { h = 0; late = false; pulses = 160 })
 unmoved-line o writes s p late unmoved unstrobed idle =
-    rw (line-at-rest late) at (idle-phase o writes s p (atStart late) 0 228 (λ i l h. unmoved i) unstrobed (before-line o writes s p (atStart late) idle))
+    rw (line-at-rest late) at (idle-phase o writes s p (atStart late) 0 228 (λ i l h. unmoved i) unstrobed (rw (state-first writes s) idle))

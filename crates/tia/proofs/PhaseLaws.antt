@@ -1,9 +1,9 @@
 -- The phases of a line for one object: at rest, moving after an HMOVE, and at rest again.
 use mathlib.Core.Path.{_≡_, _∙_, refl, ap}
 use mathlib.Core.Bool.{Bool, true, false, cond}
-use Prim.Native.Nat.{ℕ, zero, suc, _+_, _%_, _<_, _≤_}
-use native.Mathlib.Nat.{add-zero, add-suc}
+use Prim.Native.Nat.{ℕ, suc, _+_, _%_, _<_, _≤_}
 use native.Mathlib.Omega.{arith}
+use Rattle.laws.specs.Steps.{after}
 use Rattle.tia.specs.declared.state.State.{State}
 use Rattle.tia.specs.declared.write.Write.{Write}
 use Rattle.tia.specs.declared.write.Write.the-variants.{Nothing}
@@ -11,7 +11,7 @@ use Rattle.tia.specs.Write.{HMOVE, hits}
 use Rattle.tia.specs.Object.{reached}
 use Rattle.tia.specs.Clock.{clockOf}
 use Rattle.tia.specs.Movable.{Movable, bodyOf, positionOf, strobeOf, motionRegisterOf}
-use Rattle.tia.proofs.LineLaws.{stateAt}
+use Rattle.tia.proofs.LineLaws.{stateAt, over-clocks}
 use Rattle.tia.proofs.TrackLaws.{Track, trackOf, trackNext, timingNext, pulsedOn, clock-track, clock-position, Undisturbed, undisturbed-track, undisturbed-pulse, resting, lateNext, visibleAt, resting-timing, resting-live, resting-pulse}
 
 -- A position after one pulse more, or none.
@@ -40,10 +40,6 @@ restNext r =
       late = lateNext (r .h) (r .late);
       pulses = cond (visibleAt (r .h) (r .late)) (suc (r .pulses)) (r .pulses);
     }
-
-unfoldable pub restAfter : ℕ → Rest → Rest
-restAfter zero r = r
-restAfter (suc n) r = restNext (restAfter n r)
 
 -- An object at rest, at a position that it reached by these pulses.
 pub record Idle (o : Movable) (s : State) (p : ℕ) (r : Rest) : Type 0 where
@@ -75,24 +71,27 @@ idle-step o s w p r unmoved unstrobed idle =
     }
 
 -- Clocks without HMOVE and without the object's strobe.
+abbrev IdleWrite : Movable → Write → Type 0
+IdleWrite o w = (hits w HMOVE ≡ false) × (hits w (strobeOf o) ≡ false)
+
 pub idle-phase :
     (o : Movable) (writes : ℕ → Write) (s : State) (p : ℕ) (r : Rest) (n k : ℕ) →
     ((i : ℕ) → n ≤ i → i < n + k → hits (writes i) HMOVE ≡ false) →
     ((i : ℕ) → hits (writes i) (strobeOf o) ≡ false) →
-    Idle o (stateAt writes s n) p r → Idle o (stateAt writes s (n + k)) p (restAfter k r)
-unfolding restAfter stateAt
-idle-phase o writes s p r n zero unmoved unstrobed idle = rw add-zero idle
-idle-phase o writes s p r n (suc k) unmoved unstrobed idle =
-    rw (add-suc n k)
-    (idle-step
-    o
-    (stateAt writes s (n + k))
-    (writes (n + k))
-    p
-    (restAfter k r)
-    (unmoved (n + k) (omega arith) (omega arith))
-    (unstrobed (n + k))
-    (idle-phase o writes s p r n k (λ i l h. unmoved i l (omega arith)) unstrobed idle))
+    Idle o (stateAt writes s n) p r → Idle o (stateAt writes s (n + k)) p (after restNext k r)
+idle-phase o writes s p r n k unmoved unstrobed idle =
+    over-clocks
+    (λ s r. Idle o s p r)
+    restNext
+    (IdleWrite o)
+    (λ s w r calm. idle-step o s w p r (calm .0) (calm .1))
+    writes
+    s
+    r
+    n
+    k
+    (λ i l h. (unmoved i l h, unstrobed i))
+    idle
 
 -- Moving: the track, and the pulses so far.
 pub record Moving : Type 0 where
@@ -105,10 +104,6 @@ movingNext m =
       track = trackNext 0 Nothing (m .track);
       pulses = cond (pulsedOn 0 Nothing (m .track)) (suc (m .pulses)) (m .pulses);
     }
-
-unfoldable pub movingAfter : ℕ → Moving → Moving
-movingAfter zero m = m
-movingAfter (suc n) m = movingNext (movingAfter n m)
 
 pub record OnTrack (o : Movable) (s : State) (p : ℕ) (m : Moving) : Type 0 where
   pub on : trackOf o s ≡ m .track
@@ -137,21 +132,24 @@ moving-step o s w p m undisturbed unstrobed moves =
     }
 
 -- Clocks without HMOVE, the object's motion register, HMCLR and the object's strobe.
+abbrev MovingWrite : Movable → Write → Type 0
+MovingWrite o w = Undisturbed (motionRegisterOf o) w × (hits w (strobeOf o) ≡ false)
+
 pub moving-phase :
     (o : Movable) (writes : ℕ → Write) (s : State) (p : ℕ) (m : Moving) (n k : ℕ) →
     ((i : ℕ) → n ≤ i → i < n + k → Undisturbed (motionRegisterOf o) (writes i)) →
     ((i : ℕ) → hits (writes i) (strobeOf o) ≡ false) →
-    OnTrack o (stateAt writes s n) p m → OnTrack o (stateAt writes s (n + k)) p (movingAfter k m)
-unfolding movingAfter stateAt
-moving-phase o writes s p m n zero undisturbed unstrobed moves = rw add-zero moves
-moving-phase o writes s p m n (suc k) undisturbed unstrobed moves =
-    rw (add-suc n k)
-    (moving-step
-    o
-    (stateAt writes s (n + k))
-    (writes (n + k))
-    p
-    (movingAfter k m)
-    (undisturbed (n + k) (omega arith) (omega arith))
-    (unstrobed (n + k))
-    (moving-phase o writes s p m n k (λ i l h. undisturbed i l (omega arith)) unstrobed moves))
+    OnTrack o (stateAt writes s n) p m → OnTrack o (stateAt writes s (n + k)) p (after movingNext k m)
+moving-phase o writes s p m n k undisturbed unstrobed moves =
+    over-clocks
+    (λ s m. OnTrack o s p m)
+    movingNext
+    (MovingWrite o)
+    (λ s w m calm. moving-step o s w p m (calm .0) (calm .1))
+    writes
+    s
+    m
+    n
+    k
+    (λ i l h. (undisturbed i l h, unstrobed i))
+    moves

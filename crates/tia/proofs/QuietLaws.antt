@@ -7,12 +7,14 @@ use native.Mathlib.Nat.{zero-add, add-suc}
 use native.Mathlib.Omega.{arith}
 use borrow.Author.Tests.{eqb-true, le-ltb}
 use lib.Dec.{T, eqb}
+use Rattle.laws.specs.Steps.{after}
 use Rattle.laws.proofs.Bools.{and-first, and-second, is-true, holds-of, everySix, at-six}
 use Rattle.laws.proofs.Split.{split}
 use Rattle.laws.proofs.Table.{everyBelow, below, same}
 use Rattle.tia.specs.declared.lit.Lit.{Lit}
 use Rattle.tia.specs.declared.state.State.{State}
 use Rattle.tia.specs.declared.timing.Timing.{Timing}
+use Rattle.tia.specs.declared.write.Write.{Write}
 use Rattle.tia.specs.declared.write.Write.the-variants.{Nothing}
 use Rattle.tia.specs.Timing.{timingWritten, blank}
 use Rattle.tia.specs.Object.{reached}
@@ -20,9 +22,9 @@ use Rattle.tia.specs.Lit.{litOf, litBits, answerByte}
 use Rattle.tia.specs.Clock.{clockOf}
 use Rattle.tia.specs.FirstLit.{shows}
 use Rattle.tia.specs.Movable.{Movable, P0, P1, M0, M1, BL, numberOf, positionOf, motionRegisterOf, drawingOf}
-use Rattle.tia.proofs.LineLaws.{stateAt}
+use Rattle.tia.proofs.LineLaws.{stateAt, state-first, over-clocks}
 use Rattle.tia.proofs.TrackLaws.{Track, trackOf, trackNext, timingNext, pulsedOn, clock-track, resting}
-use Rattle.tia.proofs.PhaseLaws.{restNext, restAfter, Idle, idle-phase}
+use Rattle.tia.proofs.PhaseLaws.{restNext, Idle, idle-phase}
 use Rattle.tia.proofs.MoveLaws.{atStart}
 use Rattle.tia.proofs.DrawLaws.{pulsed, quietNext, quiet-registers, quiet-position, Settled, settled-stays, settled-from-zero, drawnAt, flagOf, settled-lit}
 
@@ -42,13 +44,9 @@ sweepNext q =
       visible = cond (blank (timingWritten Nothing (q .timing))) (q .visible) (suc (q .visible));
     }
 
-unfoldable sweepAfter : ℕ → Sweep → Sweep
-sweepAfter zero q = q
-sweepAfter (suc n) q = sweepNext (sweepAfter n q)
-
 -- A line ends at h = 0 with no motion under way, whatever the slot was, and has 160 visible clocks: computed.
 abbrev lineFrom : ℕ → Bool → Sweep
-lineFrom slot late = sweepAfter 228 (record { timing = record { h = 0; slot = slot; late = late }; visible = 0 })
+lineFrom slot late = after sweepNext 228 (record { timing = record { h = 0; slot = slot; late = late }; visible = 0 })
 
 isSwept : ℕ → Bool → Bool
 isSwept slot late =
@@ -56,7 +54,7 @@ isSwept slot late =
     eqb (end .timing .h) 0 && (eqb (end .timing .slot) 16 && eqb (end .visible) 160)
 
 all-swept : T (everyBelow 17 (λ slot. isSwept slot true && isSwept slot false))
-unfolding isSwept sweepAfter sweepNext timingNext
+unfolding isSwept after sweepNext timingNext
 all-swept = tt
 
 swept : (slot : ℕ) (late : Bool) → slot < 17 → isSwept slot late ≡ true
@@ -123,10 +121,13 @@ sweep-step o s q sweeping =
           (sweeping .progress);
     }
 
-sweep : (o : Movable) (s : State) (q : Sweep) → Sweeping o s q → (n : ℕ) → Sweeping o (quietAt s n) (sweepAfter n q)
-unfolding stateAt sweepAfter
-sweep o s q sweeping zero = sweeping
-sweep o s q sweeping (suc n) = sweep-step o (quietAt s n) (sweepAfter n q) (sweep o s q sweeping n)
+sweep-over :
+    (o : Movable) (s : State) (w : Write) (q : Sweep) → w ≡ Nothing → Sweeping o s q → Sweeping o (clockOf s w .state) (sweepNext q)
+sweep-over o s w q none sweeping = rw none (sweep-step o s q sweeping)
+
+sweep : (o : Movable) (s : State) (q : Sweep) → Sweeping o s q → Sweeping o (quietAt s 228) (after sweepNext 228 q)
+sweep o s q sweeping =
+    over-clocks (λ s q. Sweeping o s q) sweepNext (λ w. w ≡ Nothing) (sweep-over o) (λ i. Nothing) s q 0 228 (λ i l h. refl) (rw (state-first (λ i. Nothing) s) sweeping)
 
 -- A line without writes ends every motion and settles every object.
 pub record QuietEnd (o : Movable) (s : State) : Type 0 where
@@ -166,7 +167,6 @@ quiet-settles o s start slot below-160 =
     end =
         sweep o s (record { timing = record { h = 0; slot = t .slot; late = t .late }; visible = 0 })
         (record { timing = rebuilt (t .h) (t .slot) (t .late) start; below-160 = below-160; progress = inr (omega arith) })
-        228
 
 -- It keeps the registers, and a settled object stays settled.
 pub quiet-keeps : (s : State) (n : ℕ) → quietAt s n .registers ≡ s .registers
@@ -225,8 +225,8 @@ visible-shows o s x rest =
     ∙ shows-lit o (litOf (68 + x) (quietNext s .registers) (quietNext s .objects))
 
 -- Column x of a line at rest: h is 68 + x, and there were x pulses.
-first-column : (late : Bool) → restAfter 68 (atStart late) ≡ record { h = 68; late = false; pulses = 0 }
-unfolding restAfter restNext
+first-column : (late : Bool) → after restNext 68 (atStart late) ≡ record { h = 68; late = false; pulses = 0 }
+unfolding after restNext
 first-column true = refl
 first-column false = refl
 
@@ -237,8 +237,8 @@ next-column x h = rw (le-ltb (68 + x) 68 (omega arith), and-false, and-false, wi
     within : (68 + x + 1) % 228 ≡ 68 + suc x
     within = omega arith
 
-column-rest : (late : Bool) (x : ℕ) → x < 160 → restAfter (68 + x) (atStart late) ≡ record { h = 68 + x; late = false; pulses = x }
-unfolding restAfter
+column-rest : (late : Bool) (x : ℕ) → x < 160 → after restNext (68 + x) (atStart late) ≡ record { h = 68 + x; late = false; pulses = x }
+unfolding after
 column-rest late zero h = first-column late
 column-rest late (suc x) h = rw (add-suc 68 x, column-rest late x (omega arith)) (next-column x (omega arith) ∙ rw (add-suc 68 x))
 
