@@ -114,16 +114,16 @@ cases =
     -- Player 0, graphic 255 written at 0, strobed at 100: column 37, next line.
     ∷ claim (first-lit (numberOf P0) ((0 ∷ GRP0 ∷ 255 ∷ 100 ∷ RESP0 ∷ 0 ∷ []) ∷ [] ∷ [])) 37
     -- Missile at column 36, HMOVE at 9: half bytes 7, 15, 8 give 29, 37, 44. At column 3, 7 gives 156.
-    ∷ claim (first-lit (numberOf M0) (missileAt 100 ∷ hmoveAt 9 7 ∷ [] ∷ [])) 29
-    ∷ claim (first-lit (numberOf M0) (missileAt 100 ∷ hmoveAt 9 15 ∷ [] ∷ [])) 37
-    ∷ claim (first-lit (numberOf M0) (missileAt 100 ∷ hmoveAt 9 8 ∷ [] ∷ [])) 44
-    ∷ claim (first-lit (numberOf M0) (missileAt 30 ∷ hmoveAt 9 7 ∷ [] ∷ [])) 156
+    ∷ claim (first-lit (numberOf M0) (missileAt 100 ∷ hmoveAt 9 7 ∷ [])) 29
+    ∷ claim (first-lit (numberOf M0) (missileAt 100 ∷ hmoveAt 9 15 ∷ [])) 37
+    ∷ claim (first-lit (numberOf M0) (missileAt 100 ∷ hmoveAt 9 8 ∷ [])) 44
+    ∷ claim (first-lit (numberOf M0) (missileAt 30 ∷ hmoveAt 9 7 ∷ [])) 156
     -- HMOVE at 15 with 7 moves 7 left; at 16, 6 left.
-    ∷ claim (first-lit (numberOf M0) (missileAt 100 ∷ hmoveAt 15 7 ∷ [] ∷ [])) 29
-    ∷ claim (first-lit (numberOf M0) (missileAt 100 ∷ hmoveAt 16 7 ∷ [] ∷ [])) 30
+    ∷ claim (first-lit (numberOf M0) (missileAt 100 ∷ hmoveAt 15 7 ∷ [])) 29
+    ∷ claim (first-lit (numberOf M0) (missileAt 100 ∷ hmoveAt 16 7 ∷ [])) 30
     -- With 0: at 67, 6 right; at 68, nothing; at 227, 8 left and the next line has no blank columns.
-    ∷ claim (first-lit (numberOf M0) (missileAt 100 ∷ hmoveAt 67 0 ∷ [] ∷ [])) 42
-    ∷ claim (first-lit (numberOf M0) (missileAt 100 ∷ hmoveAt 68 0 ∷ [] ∷ [])) 36
+    ∷ claim (first-lit (numberOf M0) (missileAt 100 ∷ hmoveAt 67 0 ∷ [])) 42
+    ∷ claim (first-lit (numberOf M0) (missileAt 100 ∷ hmoveAt 68 0 ∷ [])) 36
     ∷ claim (first-lit (numberOf M0) (missileAt 100 ∷ hmoveAt 227 0 ∷ [] ∷ [])) 28
     ∷ claim (blank-columns (missileAt 100 ∷ hmoveAt 227 0 ∷ [] ∷ [])) 0
     ∷ []
