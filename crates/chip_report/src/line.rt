@@ -1,4 +1,4 @@
-// The line calls: a row for each record.
+// The row of a line call.
 use crate::call::fill;
 use crate::call::length_of;
 use crate::call::lent_of;
@@ -10,7 +10,6 @@ use crate::output::number;
 use crate::output::text;
 use crate::state_bytes::bytes_of;
 use crate::state_bytes::state_from;
-use libc::STDIN_FILENO;
 use tia::FirstLit;
 
 // The first lit column of an object: the column, `-` or the refusal.
@@ -36,8 +35,8 @@ fn columns(buffer: &[u8]) {
     column(buffer, 255);
 }
 
-// The row of a line: its answer, the digests of its state and its buffer, and the first lit columns.
-fn row(record: &[u8; 64], list: &[u8], buffer: &mut [u8], first: u8) {
+// A line call with a lent buffer: its answer, the digests of its state and its buffer, and the first lit columns.
+fn called(record: &[u8; 64], list: &[u8], buffer: &mut [u8], first: u8) {
     fill(buffer, first);
     let answer = tia::line(state_from(record), list, buffer);
     let state = answer.state;
@@ -51,25 +50,19 @@ fn row(record: &[u8; 64], list: &[u8], buffer: &mut [u8], first: u8) {
     text(b"\n");
 }
 
-// A row for each of the 3,200 line calls, as far as standard input goes.
-pub(crate) fn rows() {
-    for place in 0..3200u32 {
-        let mut record = [0u8; 64];
-        if io::read_full(STDIN_FILENO, &mut record) < 64 {
-            return;
-        }
-        let mut space = [0u8; 699];
-        let length = length_of(record[62], record[63]);
-        read_part(&mut space, length);
-        let list: &[u8] = &space;
-        let mut room = [0u8; 255];
-        let buffer: &mut [u8] = &mut room;
-        let lent = lent_of(record[61]);
-        row(
-            &record,
-            &list[0..length],
-            &mut buffer[0..lent],
-            (place % 256) as u8,
-        );
-    }
+// The row of a line call. Its list follows its record.
+pub(crate) fn row(place: u32, record: &[u8; 64]) {
+    let mut space = [0u8; 699];
+    let length = length_of(record[62], record[63]);
+    read_part(&mut space, length);
+    let list: &[u8] = &space;
+    let mut room = [0u8; 255];
+    let buffer: &mut [u8] = &mut room;
+    let lent = lent_of(record[61]);
+    called(
+        record,
+        &list[0..length],
+        &mut buffer[0..lent],
+        (place % 256) as u8,
+    );
 }

@@ -1,4 +1,4 @@
-// The runs: 24 line calls in a chain, two without writes before and after the 20 of the record; a row for each record.
+// The row of a run: 24 line calls in a chain, two without writes before and after the 20 of the record.
 use crate::call::fill;
 use crate::call::length_of;
 use crate::call::lent_of;
@@ -71,22 +71,11 @@ fn digest_of(start: State, place: u32) -> u32 {
     run.digest
 }
 
-// The row of a run: its number and its digest.
-fn row(place: u32, record: &[u8; 64]) {
+// The row of a run: its number and its digest. Its calls follow its record.
+pub(crate) fn row(place: u32, record: &[u8; 64]) {
     text(b"run ");
     number(place);
     text(b" ");
     hex(digest_of(state_from(record), place));
     text(b"\n");
-}
-
-// A row for each of the 300 runs, as far as standard input goes.
-pub(crate) fn rows() {
-    for place in 0..300u32 {
-        let mut record = [0u8; 64];
-        if io::read_full(STDIN_FILENO, &mut record) < 64 {
-            return;
-        }
-        row(place, &record);
-    }
 }

@@ -1,4 +1,4 @@
-// The single clocks: a row for each record.
+// The row of a single clock.
 use crate::digest::with_bytes;
 use crate::output::decimal;
 use crate::output::hex;
@@ -6,7 +6,6 @@ use crate::output::hex_bytes;
 use crate::output::text;
 use crate::state_bytes::bytes_of;
 use crate::state_bytes::state_from;
-use libc::STDIN_FILENO;
 use tia::Write;
 
 // The write of a single clock's record.
@@ -21,7 +20,7 @@ fn write_of(record: &[u8; 64]) -> Write {
 }
 
 // The row of a single clock: its answer, the digest of its state, and that state's read-out.
-fn row(record: &[u8; 64]) {
+pub(crate) fn row(record: &[u8; 64]) {
     let answer = tia::colour_clock(state_from(record), write_of(record));
     let state = answer.state;
     let out = tia::read_out(state);
@@ -35,15 +34,4 @@ fn row(record: &[u8; 64]) {
     decimal(out.index);
     hex_bytes(bytes);
     text(b"\n");
-}
-
-// A row for each of the 3,200 single clocks, as far as standard input goes.
-pub(crate) fn rows() {
-    for _ in 0..3200u32 {
-        let mut record = [0u8; 64];
-        if io::read_full(STDIN_FILENO, &mut record) < 64 {
-            return;
-        }
-        row(&record);
-    }
 }

@@ -1,4 +1,4 @@
-// The walks: 1,000 clocks from a state, with up to 64 timed writes; a row for each record.
+// The row of a walk: 1,000 clocks from a state, with up to 64 timed writes.
 use crate::digest::with_byte;
 use crate::digest::with_bytes;
 use crate::output::hex;
@@ -96,26 +96,13 @@ fn digest_of(start: State, writes: &[u8; 192]) -> u32 {
     digest
 }
 
-// The row of a walk: its number and its digest.
-fn row(place: u32, record: &[u8; 64], writes: &[u8; 192]) {
+// The row of a walk: its number and its digest. Its writes follow its record.
+pub(crate) fn row(place: u32, record: &[u8; 64]) {
+    let mut writes = [0u8; 192];
+    io::read_full(STDIN_FILENO, &mut writes);
     text(b"walk ");
     number(place);
     text(b" ");
-    hex(digest_of(state_from(record), writes));
+    hex(digest_of(state_from(record), &writes));
     text(b"\n");
-}
-
-// A row for each of the 320 walks, as far as standard input goes.
-pub(crate) fn rows() {
-    for place in 0..320u32 {
-        let mut record = [0u8; 64];
-        let mut writes = [0u8; 192];
-        if io::read_full(STDIN_FILENO, &mut record) < 64 {
-            return;
-        }
-        if io::read_full(STDIN_FILENO, &mut writes) < 192 {
-            return;
-        }
-        row(place, &record, &writes);
-    }
 }

@@ -1,14 +1,14 @@
--- `rows` is safe and ends: it reads at most 320 walks.
+-- `rows` is safe and ends: it reads at most as many records as it is asked for.
 use borrow.Author.Needs.{needs}
 use Prim.Native.Nat.{_≤_, _-_}
-use Rattle.chip_report.proofs.walk.rows.Statement.{statement}
-use Rattle.chip_report.proofs.walk.rows.Tie as tie
+use Rattle.chip_report.proofs.rows.Statement.{statement}
+use Rattle.chip_report.proofs.rows.Tie as tie
 
 abbrev Inv-loop : tie.InvT-loop
-Inv-loop place₀ place = place ≤ 320
+Inv-loop kind count place₀ place = place ≤ count
 
 abbrev μ-loop : tie.MeasureT-loop
-μ-loop place₀ place = 320 - place
+μ-loop kind count place₀ place = count - place
 
 loop-holds : tie.Need-loop-holds Inv-loop μ-loop
 loop-holds c = search needs
@@ -19,12 +19,6 @@ slice-aggregate-read-full c = search needs
 returns : tie.Need-returns Inv-loop μ-loop
 returns c = search needs
 
-slice-aggregate-read-full-2 : tie.Need-slice-aggregate-read-full-2 Inv-loop μ-loop
-slice-aggregate-read-full-2 c = search needs
-
-returns-2 : tie.Need-returns-2 Inv-loop μ-loop
-returns-2 c = search needs
-
 add-place : tie.Need-add-place Inv-loop μ-loop
 add-place c = search needs
 
@@ -34,8 +28,8 @@ loop-less c = search needs
 loop-again : tie.Need-loop-again Inv-loop μ-loop
 loop-again c = search needs
 
-returns-3 : tie.Need-returns-3 Inv-loop μ-loop
-returns-3 c = search needs
+returns-2 : tie.Need-returns-2 Inv-loop μ-loop
+returns-2 c = search needs
 
 pub rows-spec : {M : Type 1} → statement M
 rows-spec =
@@ -47,11 +41,8 @@ rows-spec =
     slice-aggregate-read-full
     (λ c κs. tt)
     returns
-    slice-aggregate-read-full-2
-    (λ c κs. tt)
-    returns-2
     (λ c κs. tt)
     add-place
     loop-less
     loop-again
-    returns-3)
+    returns-2)
