@@ -34,10 +34,11 @@ extraPulses m =
     let moving = clockOf (clockOf startState (Register HMM0 (16 * m)) .state) (Register HMOVE 0) .state in
     pulsesUntilRest 66 moving
 
--- Lines in turn from the start state, with these write lists: the answer bytes of the last.
+-- Lines in turn from the start state, with these write lists: the answer bytes of the last. Each gets a buffer of blank columns,
+-- so that a refused one would show nothing.
 unfoldable pub lastLine : State → List (List ℕ) → List ℕ
 lastLine s [] = []
-lastLine s (l ∷ []) = lineBuffer s l (replicate columns 0)
+lastLine s (l ∷ []) = lineBuffer s l (replicate columns 64)
 lastLine s (l ∷ m ∷ ls) = lastLine (lineAnswer s l columns .state) (m ∷ ls)
 
 -- The first lit column of an object in it; 160, past the last column, where none is lit.

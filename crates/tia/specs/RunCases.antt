@@ -62,40 +62,56 @@ broken calls accepted sum claimed position =
       outcome = record { accepted = accepted; premises = false; sum = sum; claimed = claimed; position = position };
     }
 
+-- Calls for missile 0: motion values -1 and 7 with HMOVE at 9, HMOVE alone, and one that is refused for its last record.
+abbrev pub rightByOne : Call
+rightByOne = calling (0 ∷ HMM0 ∷ 0xF0 ∷ 9 ∷ HMOVE ∷ 0 ∷ []) refl
+
+abbrev pub leftBySeven : Call
+leftBySeven = calling (0 ∷ HMM0 ∷ 0x70 ∷ 9 ∷ HMOVE ∷ 0 ∷ []) refl
+
+abbrev pub againAtZero : Call
+againAtZero = calling (0 ∷ HMOVE ∷ 0 ∷ []) refl
+
+abbrev pub againAtFifteen : Call
+againAtFifteen = calling (15 ∷ HMOVE ∷ 0 ∷ []) refl
+
+abbrev pub refusedCall : Call
+refusedCall = calling (0 ∷ HMM0 ∷ 0x10 ∷ 9 ∷ HMOVE ∷ 0 ∷ 10 ∷ 0x00 ∷ 0 ∷ []) refl
+
+-- The motion register written after a motion; HMCLR between the motion register and HMOVE.
+abbrev pub rewrittenAfter : Call
+rewrittenAfter = calling (0 ∷ HMM0 ∷ 0x70 ∷ 9 ∷ HMOVE ∷ 0 ∷ 76 ∷ HMM0 ∷ 0x80 ∷ []) refl
+
+abbrev pub clearedBefore : Call
+clearedBefore = calling (0 ∷ HMM0 ∷ 0x70 ∷ 3 ∷ HMCLR ∷ 0 ∷ 9 ∷ HMOVE ∷ 0 ∷ []) refl
+
+-- HMOVE at 16; the motion register at clock 72 after HMOVE; the missile's own strobe.
+abbrev pub hmoveAtSixteen : Call
+hmoveAtSixteen = calling (0 ∷ HMM0 ∷ 0x70 ∷ 16 ∷ HMOVE ∷ 0 ∷ []) refl
+
+abbrev pub rewrittenAt72 : Call
+rewrittenAt72 = calling (0 ∷ HMM0 ∷ 0x70 ∷ 9 ∷ HMOVE ∷ 0 ∷ 72 ∷ HMM0 ∷ 0 ∷ []) refl
+
+abbrev pub ownStrobe : Call
+ownStrobe = calling (100 ∷ RESM0 ∷ 0 ∷ []) refl
+
 abbrev pub runCases : List RunCase
 runCases =
-    -- Right by one.
-    run (calling (0 ∷ HMM0 ∷ 0xF0 ∷ 9 ∷ HMOVE ∷ 0 ∷ []) refl ∷ []) 1 (negsuc 0) 159
-    -- Left by seven, across column 0.
-    ∷ run (calling (0 ∷ HMM0 ∷ 0x70 ∷ 9 ∷ HMOVE ∷ 0 ∷ []) refl ∷ []) 1 (pos 7) 7
-    -- A refused call in the middle: its HMOVE counts for nothing.
-    ∷ run (
-    calling (0 ∷ HMM0 ∷ 0x70 ∷ 9 ∷ HMOVE ∷ 0 ∷ []) refl
-    ∷ calling (0 ∷ HMM0 ∷ 0x10 ∷ 9 ∷ HMOVE ∷ 0 ∷ 10 ∷ 0x00 ∷ 0 ∷ []) refl
-    ∷ calling (15 ∷ HMOVE ∷ 0 ∷ []) refl
-    ∷ []
-    ) 2 (pos 14) 14
+    run (rightByOne ∷ []) 1 (negsuc 0) 159
+    -- Across column 0: from column 3 to 156.
+    ∷ run (leftBySeven ∷ []) 1 (pos 7) 7
+    -- A refused call in the middle counts for nothing.
+    ∷ run (leftBySeven ∷ refusedCall ∷ againAtFifteen ∷ []) 2 (pos 14) 14
     -- The motion register rewritten before a second HMOVE, on a later line.
-    ∷ run (
-    calling (0 ∷ HMM0 ∷ 0x70 ∷ 9 ∷ HMOVE ∷ 0 ∷ 76 ∷ HMM0 ∷ 0x80 ∷ []) refl
-    ∷ calling [] refl
-    ∷ calling (0 ∷ HMM0 ∷ 0xF0 ∷ 3 ∷ HMOVE ∷ 0 ∷ []) refl
-    ∷ []
-    ) 3 (pos 6) 6
-    -- Three moves left by seven.
-    ∷ run (
-    calling (0 ∷ HMM0 ∷ 0x70 ∷ 9 ∷ HMOVE ∷ 0 ∷ []) refl ∷ calling (0 ∷ HMOVE ∷ 0 ∷ []) refl ∷ calling (15 ∷ HMOVE ∷ 0 ∷ []) refl ∷ []
-    ) 3 (pos 21) 21
-    -- HMCLR before an HMOVE in the same line.
-    ∷ run (calling (0 ∷ HMM0 ∷ 0x70 ∷ 3 ∷ HMCLR ∷ 0 ∷ 9 ∷ HMOVE ∷ 0 ∷ []) refl ∷ []) 1 (pos 0) 0
+    ∷ run (rewrittenAfter ∷ rightByOne ∷ []) 2 (pos 6) 6
+    ∷ run (leftBySeven ∷ againAtZero ∷ againAtFifteen ∷ []) 3 (pos 21) 21
+    ∷ run (clearedBefore ∷ []) 1 (pos 0) 0
     -- The empty run.
     ∷ run [] 0 (pos 0) 0
-    -- Without a premise the claim is false: HMOVE at 16 ..
-    ∷ broken (calling (0 ∷ HMM0 ∷ 0x70 ∷ 16 ∷ HMOVE ∷ 0 ∷ []) refl ∷ []) 1 (pos 7) 7 6
-    -- .. the motion register written at clock 72 after the HMOVE ..
-    ∷ broken (calling (0 ∷ HMM0 ∷ 0x70 ∷ 9 ∷ HMOVE ∷ 0 ∷ 72 ∷ HMM0 ∷ 0 ∷ []) refl ∷ []) 1 (pos 7) 7 8
-    -- .. the object's own strobe used.
-    ∷ broken (calling (100 ∷ RESM0 ∷ 0 ∷ []) refl ∷ []) 1 (pos 0) 0 127
+    -- Without a premise the claim is false.
+    ∷ broken (hmoveAtSixteen ∷ []) 1 (pos 7) 7 6
+    ∷ broken (rewrittenAt72 ∷ []) 1 (pos 7) 7 8
+    ∷ broken (ownStrobe ∷ []) 1 (pos 0) 0 127
     ∷ []
 
 -- The picture of player 0 with three copies and VDELP0: its graphics are written and restored during the run.
