@@ -5,9 +5,10 @@ use Prim.Native.Nat.{ℕ, _<_, _≤_}
 use native.Mathlib.Omega.{arith}
 use borrow.Author.Tests.{lt-ltb, le-ltb, eq-eqb, ne-eqb}
 use Rattle.laws.proofs.Split.{split}
+use Rattle.laws.specs.Numbers.{forNoSuch}
 use Rattle.counter.specs.Count.{valueOf, countOf}
 use Rattle.counter.specs.Kind.{Kind, stepOf}
-use Rattle.counter.specs.Answers.{Answer, given, refused, noSuch, stepAnswer, valueAnswer, countAnswer}
+use Rattle.counter.specs.Answers.{Answer, given, refused, stepAnswer, valueAnswer, countAnswer}
 use Rattle.counter.proofs.CountLaws.{count-of-value, value-of-count, value-below, count-below}
 
 -- The step of a kind: given up to 63, refused above.
@@ -15,7 +16,7 @@ pub step-given : (k : Kind) (v : ℕ) → v ≤ 63 → stepAnswer k v ≡ given 
 unfolding stepAnswer
 step-given k v h = rw (le-ltb 63 v h)
 
-pub step-refused : (k : Kind) (v : ℕ) → 63 < v → stepAnswer k v ≡ refused noSuch
+pub step-refused : (k : Kind) (v : ℕ) → 63 < v → stepAnswer k v ≡ refused forNoSuch
 unfolding stepAnswer
 step-refused k v h = rw (lt-ltb 63 v h)
 
@@ -24,7 +25,7 @@ pub value-given : (n : ℕ) → n < 63 → valueAnswer n ≡ given (valueOf n)
 unfolding valueAnswer
 value-given n h = rw (le-ltb 62 n (omega arith))
 
-pub value-refused : (n : ℕ) → 63 ≤ n → valueAnswer n ≡ refused noSuch
+pub value-refused : (n : ℕ) → 63 ≤ n → valueAnswer n ≡ refused forNoSuch
 unfolding valueAnswer
 value-refused n h = rw (lt-ltb 62 n h)
 
@@ -33,7 +34,7 @@ count-given : (v : ℕ) → v < 0b111111 → countAnswer v ≡ given (countOf v)
 unfolding countAnswer
 count-given v h = rw (le-ltb 63 v (omega arith), ne-eqb v 63 (omega arith))
 
-count-refused : (v : ℕ) → 0b111111 ≤ v → countAnswer v ≡ refused noSuch
+count-refused : (v : ℕ) → 0b111111 ≤ v → countAnswer v ≡ refused forNoSuch
 unfolding countAnswer
 count-refused v h =
     ⊎-elim (λ (l : 63 < v). rw (lt-ltb 63 v l)) (λ (l : v ≤ 63). rw (le-ltb 63 v l, eq-eqb v 63 (omega arith))) (split 63 v)
@@ -43,12 +44,12 @@ pub count-found : (n v : ℕ) → n < 63 → valueOf n ≡ v → countAnswer v �
 count-found n v h e = rw (← e, count-given (valueOf n) (value-below n h), count-of-value n h)
 
 -- A value that no count has is refused.
-pub count-missing : (v : ℕ) → ((n : ℕ) → n < 63 → valueOf n ≡ v → ⊥) → countAnswer v ≡ refused noSuch
+pub count-missing : (v : ℕ) → ((n : ℕ) → n < 63 → valueOf n ≡ v → ⊥) → countAnswer v ≡ refused forNoSuch
 count-missing v none =
     ⊎-elim (λ (h : v < 63). absurd (none (countOf v) (count-below v h) (value-of-count v h))) (count-refused v) (split v 63)
 
 -- An answer is not both refused and given, and it gives one value.
-clash : {a : Answer} {v : ℕ} → a ≡ refused noSuch → a ≡ given v → ⊥
+clash : {a : Answer} {v : ℕ} → a ≡ refused forNoSuch → a ≡ given v → ⊥
 clash p q = let z : _≡_ {A = ℕ} 10 0 = ap (λ (a : Answer). a .number) (sym p ∙ q) in omega arith
 
 same-value : {a : Answer} {v w : ℕ} → a ≡ given v → a ≡ given w → v ≡ w

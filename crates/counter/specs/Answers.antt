@@ -2,6 +2,7 @@
 use Prim.Native.Nat.{ℕ}
 use mathlib.Core.Bool.{Bool, cond, _||_}
 use lib.Dec.{eqb, ltb}
+use Rattle.laws.specs.Numbers.{forNoSuch}
 use Rattle.counter.specs.Count.{valueOf, countOf}
 use Rattle.counter.specs.Kind.{Kind, stepOf}
 use Rattle.counter.specs.declared.count.Found.{Found}
@@ -24,9 +25,6 @@ abbrev pub refused : ℕ → Answer
 refused n = record { number = n; index = 0; value = 0 }
 
 -- Refusal 10: no such count (over 62) or value (over 63; in conversion also 111111).
-abbrev pub noSuch : ℕ
-noSuch = 10
-
 abbrev pub noSuchCount : ℕ → Bool
 noSuchCount n = ltb 62 n
 
@@ -38,25 +36,25 @@ noSuchConversion v = noSuchValue v || eqb v 0b111111
 
 -- The step of a kind from a value.
 unfoldable pub stepAnswer : Kind → ℕ → Answer
-stepAnswer k v = cond (noSuchValue v) (refused noSuch) (given (stepOf k v))
+stepAnswer k v = cond (noSuchValue v) (refused forNoSuch) (given (stepOf k v))
 
 -- The value of a count.
 unfoldable pub valueAnswer : ℕ → Answer
-valueAnswer n = cond (noSuchCount n) (refused noSuch) (given (valueOf n))
+valueAnswer n = cond (noSuchCount n) (refused forNoSuch) (given (valueOf n))
 
 -- The count of a value.
 unfoldable pub countAnswer : ℕ → Answer
-countAnswer v = cond (noSuchConversion v) (refused noSuch) (given (countOf v))
+countAnswer v = cond (noSuchConversion v) (refused forNoSuch) (given (countOf v))
 
 -- The paper's numbers for each case of the code's answers.
 abbrev pub foundAnswer : Found → Answer
 foundAnswer (found.Is n) = given n
-foundAnswer found.Refused = refused noSuch
+foundAnswer found.Refused = refused forNoSuch
 
 abbrev pub horizontalAnswer : HorizontalStep → Answer
 horizontalAnswer (horizontal.To c) = given (c .value)
-horizontalAnswer horizontal.Refused = refused noSuch
+horizontalAnswer horizontal.Refused = refused forNoSuch
 
 abbrev pub positionAnswer : PositionStep → Answer
 positionAnswer (position.To c) = given (c .value)
-positionAnswer position.Refused = refused noSuch
+positionAnswer position.Refused = refused forNoSuch

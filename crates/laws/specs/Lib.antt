@@ -1,4 +1,5 @@
 -- Definitions that belong to no one subject.
 pub mod Bits
+pub mod Numbers
 pub mod Refusal
 pub mod Steps

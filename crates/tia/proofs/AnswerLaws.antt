@@ -13,7 +13,7 @@ use Rattle.tia.specs.declared.write_list.Fault.{Fault}
 use Rattle.tia.specs.Write.{unknown}
 use Rattle.tia.specs.State.{badState}
 use Rattle.tia.specs.Clock.{clockOf}
-use Rattle.tia.specs.Numbers.{forBadState, forLineClock, forBufferLength, forUnknownRegister}
+use Rattle.laws.specs.Numbers.{forBadState, forLineClock, forBufferLength, forUnknownRegister}
 use Rattle.tia.specs.WriteList.{faultAt, listFault}
 use Rattle.tia.specs.Line.{lineOf, picture}
 use Rattle.tia.specs.Answers.{refusedClock, givenClock, clockAnswer, refusedReadOut, givenReadOut, readOutAnswer, lineFault, lineAnswer, lineBuffer, LinePromise}

@@ -13,7 +13,7 @@ use Rattle.laws.proofs.Decides.{Decides, less, misses}
 use Rattle.laws.proofs.Refusals.{Check, check, in-order, only-first}
 use Rattle.tia.specs.declared.write_list.Fault.{Fault}
 use Rattle.tia.specs.Write.{known}
-use Rattle.tia.specs.Numbers.{forClockOver, forClockOrder, forUnknownRegister}
+use Rattle.laws.specs.Numbers.{forClockOver, forClockOrder, forUnknownRegister}
 use Rattle.tia.specs.WriteList.{TimedWrite, recordFault, firstFault, faultAt}
 use Rattle.tia.specs.LineRows.{recordRows, FirstBad, IndexGiven}
 

@@ -10,7 +10,7 @@ use borrow.Author.Tests.{eq-eqb, ne-eqb, lt-ltb, le-ltb, eqb-true}
 use lib.Dec.{eqb, ltb}
 use lib.ListN.{length, getD, drop, drop-of-length-le}
 use Rattle.tia.specs.declared.first_lit.FirstLit.the-variants.{Column, Unlit, Refused}
-use Rattle.tia.specs.Numbers.{forBufferLength, forNoSuchObject}
+use Rattle.laws.specs.Numbers.{forBufferLength, forNoSuch}
 use Rattle.tia.specs.FirstLit.{shows, firstFrom, firstLitOf}
 use Rattle.tia.specs.LineRows.{DarkBelow, Smallest}
 use Rattle.tia.proofs.CursorLaws.{left-at}
@@ -20,7 +20,7 @@ pub room-refused : (buffer : List ℕ) (object : ℕ) → (length buffer ≡ 160
 unfolding firstLitOf
 room-refused buffer object ne = rw (ne-eqb (length buffer) 160 ne)
 
-pub object-refused : (buffer : List ℕ) (object : ℕ) → length buffer ≡ 160 → 5 < object → firstLitOf buffer object ≡ Refused forNoSuchObject
+pub object-refused : (buffer : List ℕ) (object : ℕ) → length buffer ≡ 160 → 5 < object → firstLitOf buffer object ≡ Refused forNoSuch
 unfolding firstLitOf
 object-refused buffer object room h = rw (eq-eqb (length buffer) 160 room, lt-ltb 5 object h)
 
@@ -81,7 +81,7 @@ first-lit-smallest buffer object = by-tests (eqb (length buffer) 160) refl (ltb 
   where
     by-tests :
         (full : Bool) → eqb (length buffer) 160 ≡ full → (over : Bool) →
-        Smallest buffer object (cond (not full) (Refused forBufferLength) (cond over (Refused forNoSuchObject) (firstFrom object 0 buffer)))
+        Smallest buffer object (cond (not full) (Refused forBufferLength) (cond over (Refused forNoSuch) (firstFrom object 0 buffer)))
     by-tests false e over = tt
     by-tests true e true = tt
     by-tests true e false = search-smallest buffer object (eqb-true (length buffer) 160 e) 160 0 refl (below-none _)

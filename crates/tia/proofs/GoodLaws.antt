@@ -19,7 +19,7 @@ use Rattle.tia.specs.State.{timingInRange, objectsInRange, inRange, anyL
 use Rattle.tia.specs.Timing.{timingWritten, comparing, tickOf, timingAfter}
 use Rattle.tia.specs.Object.{equalSlot, objectWritten, objectMoved, objectAfter, playerAfter, missileAfter, ballAfter}
 use Rattle.tia.specs.Clock.{objectsAfter, clockOf}
-use Rattle.tia.specs.Numbers.{forUnknownRegister}
+use Rattle.laws.specs.Numbers.{forUnknownRegister}
 use Rattle.tia.specs.Answers.{refusedClock, givenClock, clockAnswer}
 use Rattle.tia.proofs.StateLaws.{good-in-range, good-rest, good-by}
 use Rattle.tia.proofs.RangeLaws.{registers-stay, objects-stay, timing-stays}

@@ -20,8 +20,8 @@ use Rattle.tia.specs.declared.write_list.Fault.{Fault}
 use Rattle.tia.specs.Write.{unknown}
 use Rattle.tia.specs.State.{inRange, liveAtRest, badState}
 use Rattle.tia.specs.Clock.{clockOf}
-use Rattle.tia.specs.Numbers.{forBadState, forLineClock, forBufferLength, forListLength, forClockOver, forClockOrder, forUnknownRegister, forNoSuchObject}
-use Rattle.tia.specs.WriteList.{TimedWrite, recordsOf, badLength, firstFault, faultAt, listFault}
+use Rattle.laws.specs.Numbers.{badLength, forBadState, forLineClock, forBufferLength, forListLength, forClockOver, forClockOrder, forUnknownRegister, forNoSuch}
+use Rattle.tia.specs.WriteList.{TimedWrite, recordsOf, firstFault, faultAt, listFault}
 use Rattle.tia.specs.FirstLit.{shows, firstFrom, firstLitOf, columnAnswer}
 use Rattle.tia.specs.Answers.{badStateRow, unknownRegisterRow, refusedClock, givenClock, clockAnswer, refusedReadOut, givenReadOut, readOutAnswer, lineFault, lineAnswer, lineBuffer}
 use Rattle.tia.specs.LineRows.{IndexGiven, lineRows, firstLitRows}
@@ -149,8 +149,8 @@ search-number object x (byte ∷ bytes) = by-test (shows object byte) (search-nu
 
 column-number :
     (room over : Bool) (found : FirstLit) → columnAnswer found .number ≡ 0 →
-    columnAnswer (cond room (Refused forBufferLength) (cond over (Refused forNoSuchObject) found)) .number
-    ≡ cond room forBufferLength (cond over forNoSuchObject 0)
+    columnAnswer (cond room (Refused forBufferLength) (cond over (Refused forNoSuch) found)) .number
+    ≡ cond room forBufferLength (cond over forNoSuch 0)
 column-number true over found none = refl
 column-number false true found none = refl
 column-number false false found none = none
@@ -163,6 +163,6 @@ first-lit-refused-exactly buffer object =
     rw (column-number (not (eqb (length buffer) 160)) (ltb 5 object) (firstFrom object 0 buffer) (search-number object 0 buffer))
     (in-order
     (check forBufferLength (not (eqb (length buffer) 160)) (differs (length buffer) 160)
-    ∷ check forNoSuchObject (ltb 5 object) (less 5 object)
+    ∷ check forNoSuch (ltb 5 object) (less 5 object)
     ∷ [])
     refl)

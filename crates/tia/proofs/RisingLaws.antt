@@ -9,7 +9,7 @@ use lib.Dec.{eqb, ltb}
 use lib.ListN.{length}
 use Rattle.tia.specs.declared.write.Write.the-variants.{Nothing, Register}
 use Rattle.tia.specs.Write.{known}
-use Rattle.tia.specs.Numbers.{forListLength}
+use Rattle.laws.specs.Numbers.{forListLength}
 use Rattle.tia.specs.WriteList.{TimedWrite, recordsOf, recordFault, firstFault, faultAt, listFault, writeAt}
 
 -- Clocks from the least on, strictly rising and below 228, and known registers.

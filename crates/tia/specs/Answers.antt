@@ -17,7 +17,7 @@ use Rattle.tia.specs.declared.write.Write.{Write}
 use Rattle.tia.specs.declared.write_list.Fault.{Fault}
 use Rattle.tia.specs.Write.{unknown}
 use Rattle.tia.specs.State.{inRange, liveAtRest, badState}
-use Rattle.tia.specs.Numbers.{forBadState, forLineClock, forBufferLength, forUnknownRegister}
+use Rattle.laws.specs.Numbers.{forBadState, forLineClock, forBufferLength, forUnknownRegister}
 use Rattle.tia.specs.Object.{columns}
 use Rattle.tia.specs.Latches.{readOut}
 use Rattle.tia.specs.Clock.{clockOf}

@@ -8,7 +8,7 @@ use Rattle.laws.specs.Bits.{bit}
 use Rattle.tia.specs.declared.first_lit.FirstLit.{FirstLit}
 use Rattle.tia.specs.declared.first_lit.FirstLit.the-variants.{Column, Unlit, Refused}
 use Rattle.tia.specs.Object.{columns}
-use Rattle.tia.specs.Numbers.{forBufferLength, forNoSuchObject}
+use Rattle.laws.specs.Numbers.{forBufferLength, forNoSuch}
 
 -- Objects are 0 to 5: P0, P1, M0, M1, BL, PF. An answer byte shows one if it has bits 6 and 7 clear and that object's bit set.
 unfoldable pub shows : (object byte : ℕ) → Bool
@@ -29,7 +29,7 @@ firstFrom object x (byte ∷ bytes) =
 unfoldable pub firstLitOf : List ℕ → ℕ → FirstLit
 firstLitOf buffer object =
     cond (not (eqb (length buffer) columns)) (Refused forBufferLength)
-    (cond (ltb 5 object) (Refused forNoSuchObject) (firstFrom object 0 buffer))
+    (cond (ltb 5 object) (Refused forNoSuch) (firstFrom object 0 buffer))
 
 -- The paper's numbers for each case: the refusal number (0: not refused), the index of the record at fault, whether a column
 -- is lit, and which.

@@ -9,7 +9,6 @@ pub mod Lit
 pub mod Playfield
 pub mod Latches
 pub mod Clock
-pub mod Numbers
 pub mod WriteList
 pub mod Line
 pub mod Cursor

@@ -11,7 +11,7 @@ use Rattle.tia.specs.declared.first_lit.FirstLit.{FirstLit}
 use Rattle.tia.specs.declared.first_lit.FirstLit.the-variants.{Column, Unlit, Refused}
 use Rattle.tia.specs.declared.state.State.{State}
 use Rattle.tia.specs.Write.{known}
-use Rattle.tia.specs.Numbers.{forLineClock, forBufferLength, forListLength, forClockOver, forClockOrder, forUnknownRegister, forNoSuchObject}
+use Rattle.laws.specs.Numbers.{forLineClock, forBufferLength, forListLength, forClockOver, forClockOrder, forUnknownRegister, forNoSuch}
 use Rattle.tia.specs.WriteList.{TimedWrite, recordsOf}
 use Rattle.tia.specs.FirstLit.{showsAt}
 use Rattle.tia.specs.Answers.{badStateRow}
@@ -52,7 +52,7 @@ lineRows s ws room =
 
 -- Rows 3 and 10 for the first lit column.
 abbrev pub firstLitRows : List ℕ → (object : ℕ) → List {1} Row
-firstLitRows buffer object = row forBufferLength (length buffer ≡ 160 → ⊥) ∷ row forNoSuchObject (5 < object) ∷ []
+firstLitRows buffer object = row forBufferLength (length buffer ≡ 160 → ⊥) ∷ row forNoSuch (5 < object) ∷ []
 
 -- No column below x shows the object.
 abbrev pub DarkBelow : List ℕ → (object x : ℕ) → Type 0

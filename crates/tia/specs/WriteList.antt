@@ -1,6 +1,6 @@
 -- A line's write list: its records, its check, and the write of a clock.
-use Prim.Native.Nat.{ℕ, suc, _+_, _%_}
-use mathlib.Core.Bool.{Bool, cond, _||_, not}
+use Prim.Native.Nat.{ℕ, suc, _+_}
+use mathlib.Core.Bool.{cond, not}
 use mathlib.Core.List.{List, [], _∷_}
 use lib.Dec.{eqb, ltb}
 use lib.ListN.{length}
@@ -8,7 +8,7 @@ use Rattle.tia.specs.declared.write.Write.{Write}
 use Rattle.tia.specs.declared.write.Write.the-variants.{Nothing, Register}
 use Rattle.tia.specs.declared.write_list.Fault.{Fault}
 use Rattle.tia.specs.Write.{known}
-use Rattle.tia.specs.Numbers.{forListLength, forClockOver, forClockOrder, forUnknownRegister}
+use Rattle.laws.specs.Numbers.{badLength, forListLength, forClockOver, forClockOrder, forUnknownRegister}
 
 -- A record of the list: three bytes, clock, address, value.
 pub record TimedWrite : Type 0 where
@@ -24,10 +24,6 @@ recordsOf [] = []
 recordsOf (c ∷ []) = []
 recordsOf (c ∷ a ∷ []) = []
 recordsOf (c ∷ a ∷ v ∷ rest) = timed c a v ∷ recordsOf rest
-
--- Refusal 4: write list not a multiple of 3, or over 684 bytes.
-abbrev pub badLength : ℕ → Bool
-badLength n = not (eqb (n % 3) 0) || ltb 684 n
 
 -- The refusal of a record, 5, 6 or 7; 0, none. The least clock is 0 for the first record, later one above the clock before.
 unfoldable pub recordFault : (least clock address : ℕ) → ℕ

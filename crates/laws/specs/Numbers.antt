@@ -1,5 +1,7 @@
--- The refusal numbers that the chip's calls give.
-use Prim.Native.Nat.{ℕ}
+-- The refusal numbers, in document 01's order; and row 4's test, which a line call and a tape share.
+use Prim.Native.Nat.{ℕ, _%_}
+use mathlib.Core.Bool.{Bool, _||_, not}
+use lib.Dec.{eqb, ltb}
 
 -- 1: a state field is outside its range, or a live flag is set with slot 16.
 abbrev pub forBadState : ℕ
@@ -17,6 +19,9 @@ forBufferLength = 3
 abbrev pub forListLength : ℕ
 forListLength = 4
 
+abbrev pub badLength : ℕ → Bool
+badLength n = not (eqb (n % 3) 0) || ltb 684 n
+
 -- 5: a clock over 227.
 abbrev pub forClockOver : ℕ
 forClockOver = 5
@@ -29,6 +34,14 @@ forClockOrder = 6
 abbrev pub forUnknownRegister : ℕ
 forUnknownRegister = 7
 
--- 10: no such object (over 5).
-abbrev pub forNoSuchObject : ℕ
-forNoSuchObject = 10
+-- 8: tape empty or version not 1.
+abbrev pub forVersion : ℕ
+forVersion = 8
+
+-- 9: tape cut short, or the place is 0 or past its end.
+abbrev pub forTapeEnd : ℕ
+forTapeEnd = 9
+
+-- 10: no such count (over 62), value (over 63; in conversion also 111111) or object (over 5).
+abbrev pub forNoSuch : ℕ
+forNoSuch = 10
