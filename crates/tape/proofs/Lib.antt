@@ -1,0 +1,3 @@
+-- Laws of tapes.
+pub mod ReadingLaws
+pub mod RefusalLaws

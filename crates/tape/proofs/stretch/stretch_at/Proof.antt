@@ -1,0 +1,87 @@
+-- `stretch_at` meets its contract.
+use mathlib.Core.Path.{_≡_, _∙_, sym, refl, ap}
+use mathlib.Core.List.{List, [], _∷_}
+use Prim.Native.Nat.{ℕ}
+use borrow.Author.Needs.{needs}
+use native.Mathlib.Omega.{arith}
+use denote.Enum.Declared
+use types.Run.{OneOf, miss}
+use Rattle.tape.specs.declared.reading.Place.{Place}
+use Rattle.tape.specs.declared.reading.Place.the-variants.{Line, Ended, Refused}
+use Rattle.tape.specs.Reading.{readAt, stretchOf, stretchAt}
+use Rattle.tape.specs.ReadingRows.{LineThere}
+use Rattle.tape.proofs.ReadingLaws.{line-there}
+use Rattle.tape.proofs.reading.Place as declared
+use Rattle.tape.proofs.stretch.stretch_at.Statement.{statement}
+use Rattle.tape.proofs.stretch.stretch_at.Tie as tie
+use Rattle.tape.proofs.stretch.stretch_at.Reads as reads
+use Rattle.tape.proofs.stretch.stretch_at.Lts as lts
+use Rattle.tape.proofs.reading.read_at.Reads as read-at-reads
+
+-- A reading that is no line names no stretch.
+no-line : (tape : List ℕ) (found : Place) → OneOf (1 ∷ 2 ∷ []) (Declared.tagOf declared.the-type found) → stretchOf tape found ≡ []
+no-line tape (Line start end) other = absurd (miss (1 ∷ 2 ∷ []) 0 tt other)
+no-line tape Ended other = refl
+no-line tape (Refused n) other = refl
+
+-- What is known where no line was found, and where one was.
+module _ (tape : List ℕ) (place : ℕ) (found : Place) (e : found ≡ readAt tape place) where
+  empty : OneOf (1 ∷ 2 ∷ []) (Declared.tagOf declared.the-type found) → [] ≡ stretchAt tape place
+  unfolding stretchAt
+  empty other = rw (← e) (sym (no-line tape found other))
+
+  there : (start end : ℕ) → found ≡ Line start end → LineThere tape place start end
+  there start end line = line-there tape place start end (sym e ∙ line)
+
+  held : (start end : ℕ) → found ≡ Line start end → stretchOf tape (Line start end) ≡ stretchAt tape place
+  unfolding stretchAt
+  held start end line = rw (← e, line)
+
+read-at-requires : tie.Need-read-at-requires
+read-at-requires c κs = search needs
+
+enum-known-found : tie.Need-enum-known-found
+enum-known-found c = search needs
+
+sub-result : tie.Need-sub-result
+sub-result c = search needs
+
+part-result-start : tie.Need-part-result-start
+part-result-start c = search needs
+
+part-result-end : tie.Need-part-result-end
+part-result-end c = search needs
+
+returns : tie.Need-returns
+returns c = empty _ _ _ (c .before .before .read-at .ensures) (c .before .match .keys2)
+
+sub-result-2 : tie.Need-sub-result-2
+sub-result-2 c =
+    let line = there _ _ _ (c .before .before .before .read-at .ensures) _ _ (c .before .found .given .1) in
+    omega arith
+
+part-result-start-2 : tie.Need-part-result-start-2
+part-result-start-2 c =
+    let line = there _ _ _ (c .before .before .before .read-at .ensures) _ _ (c .before .found .given .1) in
+    omega arith
+
+part-result-end-2 : tie.Need-part-result-end-2
+part-result-end-2 c = there _ _ _ (c .before .before .before .read-at .ensures) _ _ (c .before .found .given .1) .inside
+
+returns-2 : tie.Need-returns-2
+returns-2 c = held _ _ _ (c .before .before .before .before .read-at .ensures) _ _ (c .before .before .found .given .1)
+
+pub stretch-at-spec : {M : Type 1} → statement M
+stretch-at-spec =
+    tie.close
+    (tie.spec
+    read-at-requires
+    enum-known-found
+    sub-result
+    part-result-start
+    part-result-end
+    returns
+    sub-result-2
+    part-result-start-2
+    part-result-end-2
+    returns-2)
