@@ -1,7 +1,7 @@
 -- A line clock by clock: the state before each clock, and the answer byte of each.
 use mathlib.Core.Path.{_≡_, _∙_, refl, sym, ap}
 use mathlib.Core.List.{List}
-use Prim.Native.Nat.{ℕ, zero, suc, _+_, _<_, _≤_}
+use Prim.Native.Nat.{ℕ, zero, suc, _+_, _%_, _<_, _≤_}
 use native.Mathlib.Nat.{add-zero, zero-add, add-suc, suc-add, le-of-suc-le-suc, not-suc-le-zero}
 use native.Mathlib.Omega.{arith}
 use lib.ListN.{length, getD, length-drop}
@@ -84,3 +84,21 @@ line-byte s ws x h =
 pub line-length : (s : State) (ws : List ℕ) → length (picture (lineOf s ws)) ≡ 160
 unfolding lineOf
 line-length s ws = length-drop 68 (lineOf s ws .bytes) ∙ rw (count-of (writesOf ws) 228 0 s)
+
+-- A line from a line start ends at a line start.
+pub line-restarts : (s : State) (ws : List ℕ) → s .timing .h ≡ 0 → lineOf s ws .state .timing .h ≡ 0
+unfolding clockOf after
+line-restarts s ws start =
+    rw (line-state s ws)
+    (over-clocks
+    (λ s h. s .timing .h ≡ h)
+    (λ h. (h + 1) % 228)
+    (λ w. Unit {0})
+    (λ s w h kind at. ap (λ (h : ℕ). (h + 1) % 228) at)
+    (writesOf ws)
+    s
+    0
+    0
+    228
+    (λ i l h. tt)
+    (rw (state-first (writesOf ws) s) start))
