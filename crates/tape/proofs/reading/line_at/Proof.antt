@@ -4,60 +4,38 @@ use Rattle.tape.proofs.ReadingLaws.{lone-byte, line-length-bad, line-cu
 use borrow.Author.Needs.{needs}
 use Rattle.tape.proofs.reading.line_at.Statement.{statement}
 use Rattle.tape.proofs.reading.line_at.Tie as tie
-use Rattle.tape.proofs.reading.line_at.Reads as reads
-use Rattle.tape.proofs.reading.line_at.Lts as lts
-use Rattle.tape.proofs.reading.big_endian.Reads as big-endian-reads
-use Rattle.tape.proofs.reading.is_bad_length.Reads as is-bad-length-reads
 
--- src/reading.rt:53:16
 sub-left : tie.Need-sub-left
 sub-left c = search needs
 
--- src/reading.rt:55:9
 returns : tie.Need-returns
 returns c = sym (lone-byte _ _ (c .if1 .taken))
 
--- src/reading.rt:57:28
 shared-slice-read-big-endian : tie.Need-shared-slice-read-big-endian
 shared-slice-read-big-endian c = search needs
 
--- src/reading.rt:57:46
 add-big-endian : tie.Need-add-big-endian
 add-big-endian c = search needs
 
--- src/reading.rt:57:41
 shared-slice-read-big-endian-2 : tie.Need-shared-slice-read-big-endian-2
 shared-slice-read-big-endian-2 c = search needs
 
--- src/reading.rt:57:9
-big-endian-requires : tie.Need-big-endian-requires
-big-endian-requires c κs = search needs
-
--- src/reading.rt:58:8
-is-bad-length-requires : tie.Need-is-bad-length-requires
-is-bad-length-requires c κs = search needs
-
--- src/reading.rt:59:9
 returns-2 : tie.Need-returns-2
 returns-2 c =
     let field = c .before .before in
     sym (line-length-bad _ _ (field .before .before .before .if1 .left) _ (field .big-endian .ensures) (sym (c .before .is-bad-length .ensures) ∙ c .if2 .taken))
 
--- src/reading.rt:62:9
 returns-3 : tie.Need-returns-3
 returns-3 c =
     let field = c .before .before .before in
     sym (line-cut _ _ (field .before .before .before .if1 .left) _ (field .big-endian .ensures) (sym (c .before .before .is-bad-length .ensures) ∙ c .before .if2 .left) (c .if3 .taken))
 
--- src/reading.rt:64:17
 add-start : tie.Need-add-start
 add-start c = search needs
 
--- src/reading.rt:67:14
 add-t6 : tie.Need-add-t6
 add-t6 c = search needs
 
--- src/reading.rt:49:1
 returns-4 : tie.Need-returns-4
 returns-4 c =
     let field = c .before .before .before in
@@ -72,8 +50,8 @@ line-at-spec =
     shared-slice-read-big-endian
     add-big-endian
     shared-slice-read-big-endian-2
-    big-endian-requires
-    is-bad-length-requires
+    (λ c κs. tt)
+    (λ c κs. tt)
     returns-2
     returns-3
     add-start

@@ -1,0 +1,5 @@
+-- Laws of playing a tape, and demand 3 for a tape that is replayed.
+pub mod ChainLaws
+pub mod PlayLaws
+pub mod ReplayLaws
+pub mod TapeDemand3Laws
