@@ -5,7 +5,7 @@ use mathlib.Core.Bool.{Bool, true, false, cond, not}
 use mathlib.Core.Logic.{⊎-elim}
 use Prim.Native.Nat.{ℕ, _%_, _<_}
 use native.Mathlib.Omega.{arith}
-use borrow.Author.Tests.{eqb-true, ltb-false}
+use borrow.Author.Tests.{eq-eqb, eqb-true, ltb-false}
 use lib.Dec.{eqb, ltb}
 use lib.ListN.{length}
 use Rattle.laws.specs.Numbers.{badLength, forListLength}
@@ -16,7 +16,8 @@ use Rattle.tape.specs.Reading.{readAt, stretchAt}
 use Rattle.tape.proofs.ReadingLaws.{line-there, stretch-length}
 use Rattle.tia.specs.declared.line_call.LineAnswer.{LineAnswer}
 use Rattle.tia.specs.declared.state.State.{State}
-use Rattle.tia.specs.Answers.{lineAnswer, LinePromise}
+use Rattle.tia.specs.Line.{lineOf, picture}
+use Rattle.tia.specs.Answers.{lineFault, lineAnswer, lineBuffer, LinePromise}
 use Rattle.tia.proofs.RefusalLaws.{line-refused-exactly}
 use Rattle.replay.specs.declared.play.Verdict.{Verdict}
 use Rattle.replay.specs.declared.play.Verdict.the-variants as verdict
@@ -74,6 +75,16 @@ played-here s tape place room next e = by-reading (readAt tape place) refl
     by-reading (Line start end) line = by-number (eqb (answer .number) 0) start end refl line (rw line at e)
     by-reading Ended ended = absurd (not-ended (rw ended at e))
     by-reading (Refused n) refused = absurd (not-refused n 0 (rw refused at e))
+
+-- Then the buffer holds the line's bytes.
+pub played-bytes :
+    (s : State) (tape : List ℕ) (place : ℕ) (buffer : List ℕ) (next : ℕ) →
+    playAnswer s tape place (length buffer) .verdict ≡ verdict.Played next →
+    playBuffer s tape place buffer ≡ picture (lineOf s (stretchAt tape place))
+unfolding playBuffer lineAnswer lineBuffer
+played-bytes s tape place buffer next e =
+    let here = played-here s tape place (length buffer) next e in
+    rw (here .line, eq-eqb (lineFault s (stretchAt tape place) (length buffer) .number) 0 (here .number))
 
 -- The line call never refuses the length of a line that was read (4): reading has checked it.
 pub list-length-read :

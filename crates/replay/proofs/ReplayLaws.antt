@@ -1,17 +1,26 @@
 -- A replay line by line, and its end: each line takes two bytes or more, so a replay that may play more lines than the tape has
 -- bytes stops at the tape's end or at a refusal, and then a higher limit changes nothing.
 use mathlib.Core.Path.{_≡_, refl}
+use mathlib.Core.Bool.{Bool, true, false, cond}
 use mathlib.Core.List.{List, [], _∷_}
 use Prim.Native.Nat.{ℕ, zero, suc, _+_, _*_, _≤_, _<_}
 use native.Mathlib.Nat.{suc-add}
 use native.Mathlib.Omega.{arith}
+use borrow.Author.Tests.{eqb-false}
+use lib.Dec.{eqb}
 use lib.ListN.{length}
+use Rattle.tape.specs.declared.reading.Place.{Place}
+use Rattle.tape.specs.declared.reading.Place.the-variants as place
+use Rattle.tape.specs.Reading.{readAt, stretchAt}
 use Rattle.tape.proofs.ReadingLaws.{line-there}
+use Rattle.tia.specs.declared.line_call.LineAnswer.{LineAnswer}
 use Rattle.tia.specs.declared.state.State.{State}
 use Rattle.tia.specs.State.{startState}
+use Rattle.tia.specs.Answers.{lineAnswer}
+use Rattle.tia.proofs.RefusalLaws.{refused-line-state}
 use Rattle.replay.specs.declared.play.Verdict.{Verdict}
 use Rattle.replay.specs.declared.play.Verdict.the-variants.{Played, Ended, Refused}
-use Rattle.replay.specs.Play.{playAnswer}
+use Rattle.replay.specs.Play.{playedAt, playAnswer}
 use Rattle.replay.specs.Replay.{PlayedLine, Replay, lineFrom, andThen, replayFrom, replayOf}
 use Rattle.replay.proofs.PlayLaws.{played-here}
 
@@ -20,6 +29,28 @@ abbrev pub Stopped : Verdict → Type 0
 Stopped (Played next) = ⊥
 Stopped Ended = Unit {0}
 Stopped (Refused n i) = Unit {0}
+
+-- Where no line is played the state is the given one.
+pub unplayed-state :
+    (s : State) (tape : List ℕ) (at room : ℕ) → Stopped (playAnswer s tape at room .verdict) → playAnswer s tape at room .state ≡ s
+unfolding playAnswer
+unplayed-state s tape at room = by-reading (readAt tape at)
+  where
+    answer : LineAnswer
+    answer = lineAnswer s (stretchAt tape at) room
+
+    by-number :
+        (b : Bool) (end : ℕ) → eqb (answer .number) 0 ≡ b →
+        Stopped (cond b (Played end) (Refused (answer .number) (answer .index))) → answer .state ≡ s
+    by-number true end e stopped = absurd stopped
+    by-number false end e stopped = refused-line-state s (stretchAt tape at) room (eqb-false (answer .number) 0 e)
+
+    by-reading :
+        (found : Place) → Stopped (playedAt s (stretchAt tape at) room found .verdict) →
+        playedAt s (stretchAt tape at) room found .state ≡ s
+    by-reading (place.Line start end) stopped = by-number (eqb (answer .number) 0) end refl stopped
+    by-reading place.Ended stopped = refl
+    by-reading (place.Refused n) stopped = refl
 
 -- What holds of no line, of one line before a replay of which it holds, and of a replay that stops, holds of every replay.
 pub over-replay :

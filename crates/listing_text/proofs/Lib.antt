@@ -1,0 +1,6 @@
+-- Laws of the listing's text.
+pub mod LineTextLaws
+pub mod ListingLaws
+pub mod PrintedProof
+pub mod PutLaws
+pub mod StepLaws
