@@ -45,12 +45,17 @@ impl Call {
     /// Makes the call on a state, with a buffer that holds rising bytes from this one on, modulo
     /// 256.
     pub fn play(&self, given: &State, first_byte: usize) -> Played {
-        let mut buffer: Vec<u8> = (0..usize::from(self.length))
-            .map(|index| (first_byte + index) as u8)
-            .collect();
+        let mut buffer = lent_buffer(self.length, first_byte);
         let answer = line(given, &self.list, &mut buffer);
         Played { answer, buffer }
     }
+}
+
+/// A buffer of this length before a call: rising bytes from a first one on, modulo 256.
+pub fn lent_buffer(length: u8, first_byte: usize) -> Vec<u8> {
+    (0..usize::from(length))
+        .map(|index| (first_byte + index) as u8)
+        .collect()
 }
 
 /// A call that was made: its answer and the buffer as it returns.

@@ -1,12 +1,13 @@
 //! The cases: single clocks and walks of 1,000 clocks with their records in the case file, and the
-//! generation of these and of the line calls from fixed seeds.
+//! generation of these, of the line calls and of the tape calls from fixed seeds.
 
 use crate::calls::{LineCase, RunCase};
 use crate::chip_state::State;
 use crate::clock::RegisterWrite;
 use crate::random::Random;
 use crate::state_bytes::to_bytes;
-use crate::{line_cases, run_cases, single_cases, walk_cases};
+use crate::tape_calls::TapeCase;
+use crate::{line_cases, run_cases, single_cases, tape_cases, walk_cases};
 
 /// The number of single clocks.
 pub const SINGLES: usize = 3200;
@@ -28,6 +29,9 @@ const LINE_SEED: u64 = 2601;
 
 /// The seed of the runs.
 const RUN_SEED: u64 = 2602;
+
+/// The seed of the tape records.
+const TAPE_SEED: u64 = 2603;
 
 /// One clock: the state given to it and its write.
 #[derive(Clone, Copy, Debug, PartialEq, Eq)]
@@ -95,6 +99,7 @@ pub struct Cases {
     pub walks: Vec<Walk>,
     pub lines: Vec<LineCase>,
     pub runs: Vec<RunCase>,
+    pub tapes: Vec<TapeCase>,
 }
 
 /// The cases of the seeds.
@@ -105,6 +110,7 @@ pub fn generate() -> Cases {
         walks: walk_cases::generate(&mut random),
         lines: line_cases::generate(&mut Random::new(LINE_SEED)),
         runs: run_cases::generate(&mut Random::new(RUN_SEED)),
+        tapes: tape_cases::generate(&mut Random::new(TAPE_SEED)),
     }
 }
 
@@ -112,6 +118,7 @@ pub fn generate() -> Cases {
 mod tests {
     use super::*;
     use crate::calls::{LINES, RUNS};
+    use crate::tape_calls::TAPES;
 
     /// A write of this address and value.
     fn write(address: u8, value: u8) -> RegisterWrite {
@@ -192,6 +199,7 @@ mod tests {
         assert_eq!(cases.walks.len(), WALKS);
         assert_eq!(cases.lines.len(), LINES);
         assert_eq!(cases.runs.len(), RUNS);
+        assert_eq!(cases.tapes.len(), TAPES);
         assert_eq!(cases, generate());
     }
 }

@@ -3,7 +3,7 @@
 
 use crate::cases::{generate, Cases};
 use crate::failure::Failure;
-use crate::{coverage_list, line_coverage, run_coverage};
+use crate::{coverage_list, line_coverage, run_coverage, tape_coverage};
 use std::io::{self, Write};
 
 /// Writes the records of the cases. Writes nothing if the cases miss something; ends early with
@@ -14,7 +14,7 @@ pub fn write(out: &mut dyn Write) -> Result<(), Failure> {
     Ok(write_records(out, &cases)?)
 }
 
-/// Writes the records of the single clocks, the walks, the lines and the runs.
+/// Writes the records of the single clocks, the walks, the lines, the runs and the tapes.
 fn write_records(out: &mut dyn Write, cases: &Cases) -> io::Result<()> {
     for single in &cases.singles {
         out.write_all(&single.record())?;
@@ -28,6 +28,9 @@ fn write_records(out: &mut dyn Write, cases: &Cases) -> io::Result<()> {
     for run in &cases.runs {
         out.write_all(&run.record())?;
     }
+    for tape in &cases.tapes {
+        out.write_all(&tape.record())?;
+    }
     Ok(())
 }
 
@@ -39,7 +42,9 @@ fn check(cases: &Cases) -> Result<(), Failure> {
     line_coverage::count(&mut lines, &cases.lines);
     let mut runs = run_coverage::required();
     run_coverage::count(&mut runs, &cases.runs);
-    let missing = clocks.missing() + &lines.missing() + &runs.missing();
+    let mut tapes = tape_coverage::required();
+    tape_coverage::count(&mut tapes, &cases.tapes);
+    let missing = clocks.missing() + &lines.missing() + &runs.missing() + &tapes.missing();
     if missing.is_empty() {
         Ok(())
     } else {
@@ -58,6 +63,7 @@ mod tests {
             walks: vec![],
             lines: vec![],
             runs: vec![],
+            tapes: vec![],
         }
     }
 
@@ -76,12 +82,15 @@ mod tests {
         assert_eq!(write(&mut file), Ok(()));
         let lines: Vec<u8> = cases.lines.iter().flat_map(|line| line.record()).collect();
         let runs: Vec<u8> = cases.runs.iter().flat_map(|run| run.record()).collect();
+        let tapes: Vec<u8> = cases.tapes.iter().flat_map(|tape| tape.record()).collect();
         let clocks = 3200 * 64 + 320 * 256;
         assert_eq!(file[..64], cases.singles[0].record());
         assert_eq!(file[3200 * 64..][..256], cases.walks[0].record());
         assert_eq!(file[clocks..][..lines.len()], lines);
-        assert_eq!(file[clocks + lines.len()..], runs);
-        assert!(file.len() < 1_200_000, "{}", file.len());
+        let calls = clocks + lines.len();
+        assert_eq!(file[calls..][..runs.len()], runs);
+        assert_eq!(file[calls + runs.len()..], tapes);
+        assert!(file.len() < 1_500_000, "{}", file.len());
     }
 
     #[test]
@@ -93,13 +102,14 @@ mod tests {
         assert!(text.contains("missing: walk: clock refused with 1 (5 more)\n"));
         assert!(text.contains("missing: line: HMOVE at 227 (5 more)\n"));
         assert!(text.contains("missing: run: call refused with 3 (50 more)\n"));
+        assert!(text.contains("missing: tape: refused with 8, empty (10 more)\n"));
         assert!(!text.contains("written in a single record"));
     }
 
     #[test]
     fn a_write_error_ends_the_file() {
         let cases = generate();
-        for room in [0, 100, 204_800, 286_720, 400_000] {
+        for room in [0, 100, 204_800, 286_720, 400_000, 1_000_000] {
             let mut room = vec![0; room];
             assert!(write_records(&mut room.as_mut_slice(), &cases).is_err());
         }
@@ -109,7 +119,8 @@ mod tests {
     fn without_cases_everything_is_missing() {
         let everything = coverage_list::required().missing()
             + &line_coverage::required().missing()
-            + &run_coverage::required().missing();
+            + &run_coverage::required().missing()
+            + &tape_coverage::required().missing();
         assert_eq!(missing(&none()), everything);
     }
 

@@ -1,5 +1,5 @@
 //! The text of the chip report: for each single clock its answer and the read-out after it, for
-//! each walk the digest of all its answers, then the lines and the runs.
+//! each walk the digest of all its answers, then the lines, the runs and the tapes.
 
 use crate::cases::{generate, Single, Walk};
 use crate::chip_state::State;
@@ -8,6 +8,7 @@ use crate::collisions::read_out;
 use crate::digest::Digest;
 use crate::line_report::{line_text, run_text};
 use crate::state_bytes::to_bytes;
+use crate::tape_report::tape_text;
 use std::io::{self, Write};
 
 /// Writes a line for each case. Ends early with the first write error.
@@ -24,6 +25,9 @@ pub fn write(out: &mut dyn Write) -> io::Result<()> {
     }
     for (n, run) in cases.runs.iter().enumerate() {
         writeln!(out, "{}", run_text(n, run))?;
+    }
+    for (n, case) in cases.tapes.iter().enumerate() {
+        writeln!(out, "{}", tape_text(n, case))?;
     }
     Ok(())
 }
@@ -188,7 +192,7 @@ mod tests {
         let text = String::from_utf8(out).unwrap();
         let lines: Vec<&str> = text.lines().collect();
         assert!(text.ends_with('\n'));
-        assert_eq!(lines.len(), 3200 + 320 + 3200 + 300);
+        assert_eq!(lines.len(), 3200 + 320 + 3200 + 300 + 2400);
         for line in &lines[..3200] {
             let fields: Vec<&str> = line.split(' ').collect();
             assert_eq!(fields.len(), 7);
@@ -202,9 +206,13 @@ mod tests {
             assert!(line.starts_with("line "));
             assert_eq!(line.split(' ').count(), 13);
         }
-        for (n, line) in lines[6720..].iter().enumerate() {
+        for (n, line) in lines[6720..7020].iter().enumerate() {
             assert!(line.starts_with(&format!("run {} ", n)));
             assert_eq!(line.split(' ').count(), 3);
+        }
+        for line in &lines[7020..] {
+            assert!(line.starts_with("tape "));
+            assert_eq!(line.split(' ').count(), 10);
         }
     }
 }

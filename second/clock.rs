@@ -266,6 +266,7 @@ mod tests {
         run(state, write).unwrap()
     }
 
+    // Bench check: CXCLR on a clock with an overlap: that pair is latched afterwards.
     #[test]
     fn bench_cxclr_with_an_overlap_leaves_that_pair_latched() {
         let mut state = at(100);
@@ -281,6 +282,7 @@ mod tests {
         assert_eq!(read_out(&done.state), Ok([0, 0, 0, 0, 0x80, 0, 0, 0]));
     }
 
+    // Bench check: extra pulses for half bytes 0, 7, 8, 15: 8, 15, 0, 7.
     #[test]
     fn bench_extra_pulses() {
         for (half_byte, pulses) in [(0, 8), (7, 15), (8, 0), (15, 7)] {

@@ -184,6 +184,7 @@ mod tests {
         assert_eq!(ALL_ONE.plain_step(), ALL_ONE);
     }
 
+    // Bench check: counts 4, 16, 39, 56, 62 are 111100, 011100, 101101, 010100, 000001.
     #[test]
     fn bench_counts() {
         let cases = [
@@ -200,8 +201,9 @@ mod tests {
         }
     }
 
+    // Bench check: 111111 steps to 000000.
     #[test]
-    fn all_ones_steps_to_zero_in_both_kinds() {
+    fn bench_all_ones_steps_to_zero_in_both_kinds() {
         for kind in KINDS {
             assert_eq!(kind.step(63), Ok(ALL_ZERO));
         }

@@ -175,6 +175,7 @@ mod tests {
             }],
             lines: vec![],
             runs: vec![],
+            tapes: vec![],
         }
     }
 

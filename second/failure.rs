@@ -1,8 +1,8 @@
-//! Why a command fails: a write error, or something missing or false.
+//! Why a command fails: a write error on its output, or something that is named.
 
 use std::io;
 
-/// The reason; the text names what is missing or false, a line each.
+/// The reason; the text names what is missing or false or cannot be written, a line each.
 #[derive(Debug, PartialEq, Eq)]
 pub enum Failure {
     WriteError,
@@ -10,7 +10,7 @@ pub enum Failure {
 }
 
 impl From<io::Error> for Failure {
-    /// A write error.
+    /// A write error on the output.
     fn from(_: io::Error) -> Failure {
         Failure::WriteError
     }

@@ -12,8 +12,10 @@ use crate::random_states::{
     byte_beyond, darken_playfield, line_start_state, with_field, with_live_flag, without_motion,
 };
 use crate::random_writes::unknown_addresses;
-use crate::registers::{address_of, Register, KNOWN};
-use crate::spoil::{any_index, least_index, resize, spoil, spoil_record, WRONG_LENGTHS};
+use crate::registers::{address_of, playfield_register, KNOWN};
+use crate::spoil::{
+    any_index, least_index, resize, spoil, spoil_record, spoil_two_records, WRONG_LENGTHS,
+};
 use crate::write_list::ListedWrite;
 
 /// A function that adds a group of line records.
@@ -58,14 +60,14 @@ pub fn generate(random: &mut Random) -> Vec<LineCase> {
 }
 
 /// A call without faults.
-fn good_case(random: &mut Random) -> LineCase {
+pub fn good_case(random: &mut Random) -> LineCase {
     let state = line_start_state(random);
     let list = free_list(random);
     case_of(state, &list)
 }
 
 /// A call without faults and with a short list.
-fn short_case(random: &mut Random) -> LineCase {
+pub fn short_case(random: &mut Random) -> LineCase {
     let state = line_start_state(random);
     let list = short_list(random);
     case_of(state, &list)
@@ -83,7 +85,7 @@ fn case_of(state: State, list: &[ListedWrite]) -> LineCase {
 fn bench_checks(_: &mut Random, cases: &mut Vec<LineCase>) {
     for check in checks() {
         let mut state = State::START;
-        for line in check {
+        for line in check.lines {
             let case = case_of(state, &line);
             state = case.call.play(&state, 0).answer.state;
             cases.push(case);
@@ -155,11 +157,7 @@ fn first_columns(random: &mut Random, cases: &mut Vec<LineCase>) {
         let mut state = line_start_state(random);
         darken_playfield(&mut state.registers);
         state.registers.ctrlpf &= 0b1111_1110;
-        let address = match column / 4 % 20 {
-            0..=3 => address_of(Register::Pf0),
-            4..=11 => address_of(Register::Pf1),
-            _ => address_of(Register::Pf2),
-        };
+        let address = address_of(playfield_register(column));
         let write = ListedWrite::new(68 + column, address, 255);
         cases.push(case_of(state, &[write]));
     }
@@ -309,10 +307,7 @@ fn two_record_faults(random: &mut Random, cases: &mut Vec<LineCase>) {
             for _ in 0..6 {
                 let state = line_start_state(random);
                 let mut list = short_list(random);
-                let later = usize::from(random.between(2, list.len() as u8 - 1));
-                let earlier = usize::from(random.between(1, later as u8 - 1));
-                spoil_record(random, &mut list, later, second);
-                spoil_record(random, &mut list, earlier, first);
+                spoil_two_records(random, &mut list, first, second);
                 cases.push(case_of(state, &list));
             }
         }

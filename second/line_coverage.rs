@@ -20,14 +20,14 @@ const FEW: u32 = 5;
 /// A line call that was made: what it was given, its faults, and what came of it.
 pub struct SeenLine {
     case: LineCase,
-    records: Vec<ListedWrite>,
-    faults: Vec<Refusal>,
+    pub records: Vec<ListedWrite>,
+    pub faults: Vec<Refusal>,
     played: Played,
 }
 
 impl SeenLine {
     /// The call of the line record with this number.
-    fn new(number: usize, case: &LineCase) -> SeenLine {
+    pub fn new(number: usize, case: &LineCase) -> SeenLine {
         let length = usize::from(case.call.length);
         SeenLine {
             case: case.clone(),
@@ -48,12 +48,12 @@ impl SeenLine {
     }
 
     /// Whether the call has a fault with this number.
-    fn has(&self, number: u8) -> bool {
+    pub fn has(&self, number: u8) -> bool {
         self.faults.iter().any(|fault| fault.number == number)
     }
 
     /// The index of the record that was refused with this number, 5 to 7.
-    fn bad_record(&self, number: u8) -> Option<usize> {
+    pub fn bad_record(&self, number: u8) -> Option<usize> {
         let index = self.played.answer.record;
         Some(index).filter(|_| self.refused_with(number))
     }
@@ -64,7 +64,7 @@ impl SeenLine {
     }
 
     /// The clocks at which an accepted line writes a register.
-    fn clocks_of(&self, register: Register) -> Vec<u8> {
+    pub fn clocks_of(&self, register: Register) -> Vec<u8> {
         let written = |record: &&ListedWrite| {
             self.accepted() && register_at(record.write.address) == Some(register)
         };
@@ -77,7 +77,7 @@ impl SeenLine {
 
     /// The first lit column of an object in the buffer as the call returns; none if it has not
     /// 160 bytes.
-    fn first_column(&self, object: usize) -> Option<usize> {
+    pub fn first_column(&self, object: usize) -> Option<usize> {
         first_lit(&self.played.buffer, object as u8).unwrap_or(None)
     }
 }

@@ -4,7 +4,7 @@
 use crate::chip_state::State;
 use crate::refusal::Refusal;
 use crate::registers::register_at;
-use crate::write_list::{records, ListedWrite, CLOCKS, MOST_BYTES};
+use crate::write_list::{is_list_length, records, ListedWrite, CLOCKS};
 
 /// The number of bytes of a line's buffer: one a column.
 pub const COLUMNS: usize = 160;
@@ -39,7 +39,7 @@ fn call_faults(given: &State, list: &[u8], length: usize) -> Vec<Refusal> {
     if length != COLUMNS {
         faults.push(Refusal::without_record(3));
     }
-    if list.len() % 3 != 0 || list.len() > MOST_BYTES {
+    if !is_list_length(list.len()) {
         faults.push(Refusal::without_record(4));
     }
     faults

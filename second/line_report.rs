@@ -2,7 +2,7 @@
 
 use crate::calls::{LineCase, Played, RunCase};
 use crate::digest::Digest;
-use crate::first_lit::first_lit;
+use crate::first_lit::first_lit_text;
 use crate::state_bytes::to_bytes;
 
 /// The objects whose first lit column is printed; the last two are none.
@@ -24,15 +24,6 @@ pub fn line_text(number: usize, case: &LineCase) -> String {
         Digest::of(&played.buffer),
         columns.join(" ")
     )
-}
-
-/// The first lit column of an object: its number, `-` for none, or the refusal.
-fn first_lit_text(bytes: &[u8], object: u8) -> String {
-    match first_lit(bytes, object) {
-        Ok(Some(column)) => column.to_string(),
-        Ok(None) => "-".to_string(),
-        Err(refusal) => refusal.to_string(),
-    }
 }
 
 /// The text of the run with this number, without its newline.

@@ -1,4 +1,4 @@
-//! The command line of the second program: one command a report.
+//! The command line of the second program: one command a report, the listing, the test tapes.
 
 mod bench;
 mod calls;
@@ -12,6 +12,7 @@ mod counter;
 mod counter_report;
 mod coverage;
 mod coverage_list;
+mod damage;
 mod demand3;
 mod demand3_report;
 mod digest;
@@ -23,19 +24,36 @@ mod line_cases;
 mod line_coverage;
 mod line_faults;
 mod line_report;
+mod listing;
 mod lit;
+mod long_tapes;
 mod object;
+#[cfg(test)]
+mod played_lines;
 mod random;
 mod random_lists;
 mod random_states;
+mod random_tapes;
 mod random_writes;
 mod refusal;
+mod refused_tapes;
 mod registers;
+mod replay;
 mod run_cases;
 mod run_coverage;
+mod shown_tapes;
 mod single_cases;
+#[cfg(test)]
+mod slips;
 mod spoil;
+mod spoil_tape;
 mod state_bytes;
+mod tape;
+mod tape_calls;
+mod tape_cases;
+mod tape_coverage;
+mod tape_report;
+mod test_tapes;
 mod walk_cases;
 mod write_list;
 
@@ -43,59 +61,82 @@ use failure::Failure;
 use std::env;
 use std::ffi::OsString;
 use std::io::{self, BufWriter, Write};
+use std::path::Path;
 use std::process::ExitCode;
 
-/// A command: its name, what it prints, and the function that writes it.
+/// A command: its name, the names of its arguments, what it gives, and the function that does it
+/// with the arguments and standard output.
 struct Command {
     name: &'static str,
-    prints: &'static str,
-    write: fn(&mut dyn Write) -> Result<(), Failure>,
+    arguments: &'static [&'static str],
+    gives: &'static str,
+    run: fn(&[OsString], &mut dyn Write) -> Result<(), Failure>,
 }
 
-const COMMANDS: [Command; 4] = [
+const COMMANDS: [Command; 6] = [
     Command {
         name: "counter",
-        prints: "the six-bit counter's answers for every byte",
-        write: |out| Ok(counter_report::write(out)?),
+        arguments: &[],
+        gives: "the six-bit counter's answers for every byte",
+        run: |_, out| Ok(counter_report::write(out)?),
     },
     Command {
         name: "chip_cases",
-        prints: "the case file of single clocks, walks, lines and runs (binary)",
-        write: chip_cases::write,
+        arguments: &[],
+        gives: "the case file of single clocks, walks, lines, runs and tapes (binary)",
+        run: |_, out| chip_cases::write(out),
     },
     Command {
         name: "chip",
-        prints: "the chip's answers for the cases of the case file",
-        write: |out| Ok(chip_report::write(out)?),
+        arguments: &[],
+        gives: "the chip's answers for the cases of the case file",
+        run: |_, out| Ok(chip_report::write(out)?),
     },
     Command {
         name: "demand3",
-        prints: "how often demand 3 was checked on the runs of the case file",
-        write: demand3_report::write,
+        arguments: &[],
+        gives: "how often demand 3 was checked on the runs of the case file",
+        run: |_, out| demand3_report::write(out),
+    },
+    Command {
+        name: "listing",
+        arguments: &[],
+        gives: "the listing of the tape on standard input",
+        run: |_, out| Ok(listing::write(&mut io::stdin().lock(), out)?),
+    },
+    Command {
+        name: "tapes",
+        arguments: &["DIR"],
+        gives: "the test tapes, each a file in the folder DIR",
+        run: |arguments, _| test_tapes::write_into(Path::new(&arguments[0])),
     },
 ];
 
-/// The command that the arguments name; none if they are not exactly one known name.
-fn chosen(arguments: &[OsString]) -> Option<&'static Command> {
-    match arguments {
-        [name] => COMMANDS.iter().find(|command| name == command.name),
-        _ => None,
-    }
+/// The command that the words name, and its arguments; none if they are not exactly one known
+/// name and as many words after it as the command has arguments.
+fn chosen(words: &[OsString]) -> Option<(&'static Command, &[OsString])> {
+    let (name, arguments) = words.split_first()?;
+    COMMANDS
+        .iter()
+        .find(|command| name == command.name && arguments.len() == command.arguments.len())
+        .map(|command| (command, arguments))
 }
 
-/// The usage message: every command with what it prints.
+/// The usage message: every command with its arguments and what it gives.
 fn usage() -> String {
     let mut text = String::from("usage: second COMMAND\ncommands:\n");
     for command in &COMMANDS {
-        text += &format!("  {}  {}\n", command.name, command.prints);
+        let mut words = vec![command.name];
+        words.extend(command.arguments);
+        text += &format!("  {}  {}\n", words.join(" "), command.gives);
     }
     text
 }
 
-/// The exit status: 0 for a whole report, and for a write error, which only ends it; 1 for
-/// something missing or false, which is named on the error output.
-fn status(written: Result<(), Failure>, errors: &mut dyn Write) -> u8 {
-    match written {
+/// The exit status: 0 for a whole output, and for a write error on it, which only ends it; 1 for
+/// what is missing or false or cannot be written, which is named on the error output.
+fn status(done: Result<(), Failure>, errors: &mut dyn Write) -> u8 {
+    match done {
         Ok(()) | Err(Failure::WriteError) => 0,
         Err(Failure::Named(text)) => {
             let _ = errors.write_all(text.as_bytes());
@@ -104,15 +145,15 @@ fn status(written: Result<(), Failure>, errors: &mut dyn Write) -> u8 {
     }
 }
 
-/// Writes what the chosen command prints to standard output; without a known command writes the
-/// usage message to standard error and answers status 2.
+/// Does what the chosen command gives; without a known command writes the usage message to
+/// standard error and answers status 2.
 fn main() -> ExitCode {
-    let arguments: Vec<OsString> = env::args_os().skip(1).collect();
-    match chosen(&arguments) {
-        Some(command) => {
+    let words: Vec<OsString> = env::args_os().skip(1).collect();
+    match chosen(&words) {
+        Some((command, arguments)) => {
             let mut out = BufWriter::new(io::stdout().lock());
-            let written = (command.write)(&mut out).and_then(|()| Ok(out.flush()?));
-            ExitCode::from(status(written, &mut io::stderr()))
+            let done = (command.run)(arguments, &mut out).and_then(|()| Ok(out.flush()?));
+            ExitCode::from(status(done, &mut io::stderr()))
         }
         None => {
             let _ = io::stderr().write_all(usage().as_bytes());
@@ -125,30 +166,43 @@ fn main() -> ExitCode {
 mod tests {
     use super::*;
 
-    /// The name of the command that these arguments choose.
-    fn name_of(arguments: &[&str]) -> Option<&'static str> {
-        let arguments: Vec<OsString> = arguments.iter().map(OsString::from).collect();
-        chosen(&arguments).map(|command| command.name)
+    /// The name of the command that these words choose.
+    fn name_of(words: &[&str]) -> Option<&'static str> {
+        let words: Vec<OsString> = words.iter().map(OsString::from).collect();
+        chosen(&words).map(|(command, _)| command.name)
     }
 
     #[test]
     fn exactly_one_known_name_chooses_a_command() {
-        assert_eq!(name_of(&["counter"]), Some("counter"));
-        assert_eq!(name_of(&["chip_cases"]), Some("chip_cases"));
-        assert_eq!(name_of(&["chip"]), Some("chip"));
-        assert_eq!(name_of(&["demand3"]), Some("demand3"));
+        for name in ["counter", "chip_cases", "chip", "demand3", "listing"] {
+            assert_eq!(name_of(&[name]), Some(name));
+            assert_eq!(name_of(&[name, name]), None);
+        }
+        for unknown in ["", "Counter", "count", "counter ", "--help"] {
+            assert_eq!(name_of(&[unknown]), None);
+        }
         assert_eq!(name_of(&[]), None);
-        assert_eq!(name_of(&[""]), None);
-        assert_eq!(name_of(&["Counter"]), None);
-        assert_eq!(name_of(&["count"]), None);
-        assert_eq!(name_of(&["counter", "counter"]), None);
+    }
+
+    #[test]
+    fn the_tapes_need_one_folder() {
+        assert_eq!(name_of(&["tapes"]), None);
+        assert_eq!(name_of(&["tapes", "a"]), Some("tapes"));
+        assert_eq!(name_of(&["tapes", "a", "b"]), None);
+        let words = ["tapes", "/no/such/folder"].map(OsString::from);
+        let (command, arguments) = chosen(&words).unwrap();
+        match (command.run)(arguments, &mut Vec::new()) {
+            Err(Failure::Named(text)) => assert!(text.contains("/no/such/folder")),
+            other => panic!("{:?}", other),
+        }
     }
 
     #[test]
     fn the_counter_command_writes_the_counter_report() {
         let mut by_command = Vec::new();
-        let arguments = [OsString::from("counter")];
-        (chosen(&arguments).unwrap().write)(&mut by_command).unwrap();
+        let words = [OsString::from("counter")];
+        let (command, arguments) = chosen(&words).unwrap();
+        (command.run)(arguments, &mut by_command).unwrap();
         let mut report = Vec::new();
         counter_report::write(&mut report).unwrap();
         assert_eq!(by_command, report);
@@ -161,9 +215,9 @@ mod tests {
             (Err(Failure::WriteError), 0, ""),
             (Err(Failure::Named("this\n".into())), 1, "this\n"),
         ];
-        for (written, expected, text) in cases {
+        for (done, expected, text) in cases {
             let mut errors = Vec::new();
-            assert_eq!(status(written, &mut errors), expected);
+            assert_eq!(status(done, &mut errors), expected);
             assert_eq!(errors, text.as_bytes());
         }
     }
@@ -171,7 +225,8 @@ mod tests {
     #[test]
     fn usage_lists_every_command() {
         for command in &COMMANDS {
-            assert!(usage().contains(&format!("\n  {}  ", command.name)));
+            assert!(usage().contains(&format!("\n  {} ", command.name)));
         }
+        assert!(usage().contains("\n  tapes DIR  the test tapes"));
     }
 }

@@ -131,6 +131,7 @@ mod tests {
         }
     }
 
+    // Bench check: extra pulses for half bytes 0, 7, 8, 15: 8, 15, 0, 7.
     #[test]
     fn bench_extra_pulses_are_the_slots_before_the_end_slot() {
         let cases = [(0, 8), (7, 15), (8, 0), (15, 7), (1, 9), (9, 1)];

@@ -10,7 +10,7 @@ impl Random {
     }
 
     /// The next 64 bits.
-    fn next(&mut self) -> u64 {
+    pub fn next(&mut self) -> u64 {
         self.0 = self.0.wrapping_add(0x9E37_79B9_7F4A_7C15);
         let mut mixed = self.0;
         mixed = (mixed ^ (mixed >> 30)).wrapping_mul(0xBF58_476D_1CE4_E5B9);
@@ -43,9 +43,14 @@ impl Random {
         self.up_to(times - 1) == 0
     }
 
+    /// An index below a length that is not 0.
+    pub fn index(&mut self, length: usize) -> usize {
+        (self.next() % length as u64) as usize
+    }
+
     /// One of the items.
     pub fn pick<T: Copy>(&mut self, items: &[T]) -> T {
-        items[(self.next() % items.len() as u64) as usize]
+        items[self.index(items.len())]
     }
 }
 
@@ -78,6 +83,17 @@ mod tests {
             met[usize::from(random.byte())] = true;
         }
         assert_eq!(met, [true; 256]);
+    }
+
+    #[test]
+    fn every_index_below_a_length_comes() {
+        let mut random = Random::new(7);
+        let mut met = [false; 700];
+        for _ in 0..20_000 {
+            met[random.index(700)] = true;
+        }
+        assert_eq!(met, [true; 700]);
+        assert_eq!(random.index(1), 0);
     }
 
     #[test]

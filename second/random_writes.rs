@@ -5,6 +5,9 @@ use crate::clock::RegisterWrite;
 use crate::random::Random;
 use crate::registers::{register_at, KNOWN};
 
+/// The addresses of the first writes from the start state: graphics, enables and playfield.
+pub const OPENING: [u8; 8] = [0x1B, 0x1C, 0x1D, 0x1E, 0x1F, 0x0D, 0x0E, 0x0F];
+
 /// The kinds of a walk's writes: how often out of 100, and their addresses. The rest are unknown
 /// addresses.
 const WALK_KINDS: [(u8, &[u8]); 12] = [

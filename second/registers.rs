@@ -87,6 +87,15 @@ pub fn address_of(register: Register) -> u8 {
         .map_or(0, |known| known.0)
 }
 
+/// The playfield register that lights a column, 0 to 159, unless reflected.
+pub fn playfield_register(column: u8) -> Register {
+    match column / 4 % 20 {
+        0..=3 => Register::Pf0,
+        4..=11 => Register::Pf1,
+        _ => Register::Pf2,
+    }
+}
+
 /// What the state holds of the registers; pairs are those of player or missile 0 and 1.
 #[derive(Clone, Copy, Debug, PartialEq, Eq)]
 pub struct Registers {
@@ -223,6 +232,18 @@ mod tests {
         }
         assert_eq!(address_of(Register::Strobe(5)), 0);
         assert_eq!(register_at(0), None);
+    }
+
+    #[test]
+    fn each_playfield_register_lights_its_columns_in_both_halves() {
+        for column in 0..160 {
+            let expected = match column % 80 {
+                0..=15 => Register::Pf0,
+                16..=47 => Register::Pf1,
+                _ => Register::Pf2,
+            };
+            assert_eq!(playfield_register(column), expected);
+        }
     }
 
     #[test]

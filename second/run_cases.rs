@@ -32,7 +32,7 @@ fn bench_runs() -> Vec<RunCase> {
     checks()
         .iter()
         .map(|check| {
-            let mut calls: Vec<Call> = check.iter().map(|line| Call::with(line)).collect();
+            let mut calls: Vec<Call> = check.lines.iter().map(|line| Call::with(line)).collect();
             calls.resize(RUN_CALLS, Call::with(&[]));
             RunCase {
                 state: State::START,

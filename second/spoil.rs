@@ -72,6 +72,14 @@ pub fn spoil_record(random: &mut Random, list: &mut [ListedWrite], index: usize,
     }
 }
 
+/// Gives an earlier and a later record, of three or more, the faults with these numbers, 5 to 7.
+pub fn spoil_two_records(random: &mut Random, list: &mut [ListedWrite], first: u8, second: u8) {
+    let later = usize::from(random.between(2, list.len() as u8 - 1));
+    let earlier = usize::from(random.between(1, later as u8 - 1));
+    spoil_record(random, list, later, second);
+    spoil_record(random, list, earlier, first);
+}
+
 /// The index of any record.
 pub fn any_index(random: &mut Random, list: &[ListedWrite]) -> usize {
     usize::from(random.up_to(list.len() as u8 - 1))
@@ -143,6 +151,22 @@ mod tests {
             }
             let numbers = numbers(&case);
             assert!([1, 2, 3, 4, 5].iter().all(|fault| numbers.contains(fault)));
+        }
+    }
+
+    #[test]
+    fn the_earlier_of_two_bad_records_has_the_first_fault() {
+        let mut random = Random::new(46);
+        for first in 5..=7 {
+            for second in 5..=7 {
+                let mut case = good_case(&mut random);
+                let mut list = short_list(&mut random);
+                spoil_two_records(&mut random, &mut list, first, second);
+                case.call.list = list_of(&list);
+                let numbers = numbers(&case);
+                assert_eq!(numbers[0], first);
+                assert!(numbers[1..].contains(&second));
+            }
         }
     }
 

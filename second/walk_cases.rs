@@ -5,11 +5,8 @@ use crate::cases::{WaitedWrite, Walk, WALKS};
 use crate::chip_state::State;
 use crate::random::Random;
 use crate::random_states::{bad_state, edge_state, even_state};
-use crate::random_writes::{showing_write, WalkWrites};
+use crate::random_writes::{showing_write, WalkWrites, OPENING};
 use std::array;
-
-/// The first writes of a walk from the start state: graphics, enables and playfield.
-const OPENING: [u8; 8] = [0x1B, 0x1C, 0x1D, 0x1E, 0x1F, 0x0D, 0x0E, 0x0F];
 
 /// How a walk's writes lie: spread evenly, in bursts, or far apart.
 #[derive(Clone, Copy)]

@@ -8,6 +8,11 @@ pub const CLOCKS: usize = 228;
 /// The most bytes of a list: a record for each clock.
 pub const MOST_BYTES: usize = 684;
 
+/// Whether a list may have this length: a multiple of 3, at most 684 bytes.
+pub fn is_list_length(length: usize) -> bool {
+    length % 3 == 0 && length <= MOST_BYTES
+}
+
 /// A record: a write and its clock.
 #[derive(Clone, Copy, Debug, PartialEq, Eq)]
 pub struct ListedWrite {
@@ -80,6 +85,15 @@ mod tests {
     fn bytes_after_the_last_whole_record_are_none() {
         assert_eq!(records(&[1]), []);
         assert_eq!(records(&[1, 2, 3, 4, 5]), [ListedWrite::new(1, 2, 3)]);
+    }
+
+    #[test]
+    fn lists_are_whole_records_and_at_most_684_bytes() {
+        for length in 0..=700 {
+            let whole = (0..=228).any(|records| 3 * records == length);
+            assert_eq!(is_list_length(length), whole);
+        }
+        assert!(!is_list_length(65_535));
     }
 
     #[test]
