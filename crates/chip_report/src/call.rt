@@ -1,4 +1,4 @@
-// What the case file has for a line call: the length of its list, the list, and the buffer before the call.
+// What the case file has for a call: the length of its list or tape, these bytes, and the buffer before the call.
 ghost use Prim.Native.Nat.{_≤_};
 ghost use lib.ListN.{length};
 use libc::STDIN_FILENO;
@@ -7,11 +7,11 @@ use libc::STDIN_FILENO;
 pub(crate) const LONGEST: usize = 699;
 
 // A length of two bytes, the higher first; at most the longest.
-pub(crate) fn length_of(high: u8, low: u8) -> usize
-    ensures { λ r. ⌜ r ≤ 699 ⌝ }
+pub(crate) fn length_of(high: u8, low: u8, longest: usize) -> usize
+    ensures { λ r. ⌜ r ≤ longest ⌝ }
 {
     let length = high as usize * 256 + low as usize;
-    if length < LONGEST { length } else { LONGEST }
+    if length < longest { length } else { longest }
 }
 
 // The length of a buffer, of one byte.

@@ -1,4 +1,5 @@
 // The row of a line call.
+use crate::call::LONGEST;
 use crate::call::fill;
 use crate::call::length_of;
 use crate::call::lent_of;
@@ -53,7 +54,7 @@ fn called(record: &[u8; 64], list: &[u8], buffer: &mut [u8], first: u8) {
 // The row of a line call. Its list follows its record.
 pub(crate) fn row(place: u32, record: &[u8; 64]) {
     let mut space = [0u8; 699];
-    let length = length_of(record[62], record[63]);
+    let length = length_of(record[62], record[63], LONGEST);
     read_part(&mut space, length);
     let list: &[u8] = &space;
     let mut room = [0u8; 255];

@@ -1,4 +1,5 @@
-// Prints the chip's answers to the cases on standard input: single clocks, walks of clocks, line calls, runs of line calls.
+// Prints the chip's answers to the cases on standard input: single clocks, walks of clocks, line calls, runs of line
+// calls, and lines of tapes.
 mod call;
 mod digest;
 mod line;
@@ -6,6 +7,7 @@ mod output;
 mod run;
 mod single;
 mod state_bytes;
+mod tape_line;
 mod walk;
 
 use libc::STDIN_FILENO;
@@ -16,6 +18,7 @@ enum Kind {
     Walk,
     Line,
     Run,
+    Tape,
 }
 
 // The row of a case.
@@ -25,6 +28,7 @@ fn row(kind: Kind, place: u32, record: &[u8; 64]) {
         Kind::Walk => walk::row(place, record),
         Kind::Line => line::row(place, record),
         Kind::Run => run::row(place, record),
+        Kind::Tape => tape_line::row(place, record),
     }
 }
 
@@ -45,4 +49,5 @@ fn main() {
     rows(Kind::Walk, 320);
     rows(Kind::Line, 3200);
     rows(Kind::Run, 300);
+    rows(Kind::Tape, 2400);
 }

@@ -17,6 +17,12 @@ pub(crate) fn decimal(n: u8) {
     text(b" ");
 }
 
+// A place in decimal, and a space.
+pub(crate) fn place(n: usize) {
+    io::print_decimal(STDOUT_FILENO, n as u64);
+    text(b" ");
+}
+
 // A digest in eight hexadecimal digits.
 pub(crate) fn hex(digest: u32) {
     io::print_hex(STDOUT_FILENO, digest as u64, 8);

@@ -1,4 +1,5 @@
 // The row of a run: 24 line calls in a chain, two without writes before and after the 20 of the record.
+use crate::call::LONGEST;
 use crate::call::fill;
 use crate::call::length_of;
 use crate::call::lent_of;
@@ -38,7 +39,7 @@ impl Run {
         let mut lengths = [0u8; 3];
         io::read_full(STDIN_FILENO, &mut lengths);
         let mut space = [0u8; 699];
-        let length = length_of(lengths[1], lengths[2]);
+        let length = length_of(lengths[1], lengths[2], LONGEST);
         read_part(&mut space, length);
         let list: &[u8] = &space;
         let mut room = [0u8; 255];
