@@ -1,6 +1,6 @@
 -- The printed lines by parts, as the code puts them.
-use mathlib.Core.Path.{_≡_, refl}
-use mathlib.Core.List.{List, []}
+use mathlib.Core.Path.{_≡_}
+use mathlib.Core.List.{List}
 use Prim.Native.Nat.{ℕ}
 use Rattle.tia.specs.declared.first_lit.FirstLit.{FirstLit}
 use Rattle.listing_text.specs.Room.{Put}

@@ -1,7 +1,7 @@
 -- The steps of a listing, one after another, print the listing.
 use mathlib.Core.Path.{_≡_, _∙_, refl, sym, ap}
 use mathlib.Core.Bool.{Bool, true, false, cond}
-use mathlib.Core.List.{List, [], _∷_, _++_, append-assoc, append-nil}
+use mathlib.Core.List.{List, [], _++_, append-assoc, append-nil}
 use Prim.Native.Nat.{ℕ, zero, suc, _+_, _-_}
 use native.Mathlib.Nat.{add-zero, zero-add}
 use native.Mathlib.Omega.{arith}
@@ -12,7 +12,6 @@ use Rattle.tia.specs.declared.state.State.{State}
 use Rattle.tia.specs.State.{startState}
 use Rattle.replay.specs.declared.play.Verdict.{Verdict}
 use Rattle.replay.specs.declared.play.Verdict.the-variants.{Played, Ended, Refused}
-use Rattle.replay.specs.Play.{playAnswer}
 use Rattle.replay.specs.Replay.{PlayedLine, Replay, stateAfterLines, lineFrom, replayFrom, replayOf}
 use Rattle.replay.proofs.ReplayLaws.{Stopped, unplayed-state, over-replay, replay-limit}
 use Rattle.listing_text.specs.declared.listing.Next.the-variants.{Line, Done}

@@ -9,7 +9,6 @@ use Rattle.tia.specs.declared.state.State.{State}
 use Rattle.tia.specs.State.{startState}
 use Rattle.tia.specs.Line.{lineOf}
 use Rattle.tia.specs.WriteList.{TimedWrite, recordsOf}
-use Rattle.tia.specs.FirstLit.{showsAt}
 use Rattle.tia.specs.Answers.{lineAnswer, lineBuffer}
 use Rattle.tia.specs.Movable.{Movable}
 use Rattle.tia.specs.Run.{allBytes, Call, LineCall, Meets, stateAfter, acceptedLists}

@@ -3,7 +3,6 @@ use Prim.Native.Nat.{ℕ, _<_}
 use mathlib.Core.Path.{_≡_}
 use mathlib.Core.Bool.{true}
 use mathlib.Core.List.{List, [], _∷_, _++_}
-use Rattle.tia.specs.declared.state.State.{State}
 use Rattle.tia.specs.State.{startState}
 use Rattle.tia.specs.Timing.{noMotion}
 use Rattle.tia.specs.Object.{columns}

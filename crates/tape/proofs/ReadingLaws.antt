@@ -1,8 +1,8 @@
 -- Reading by cases: what it answers in each branch of the code, and what a line that is read has of the tape.
-use mathlib.Core.Path.{_≡_, _∙_, refl, sym}
+use mathlib.Core.Path.{_≡_, _∙_, refl}
 use mathlib.Core.Bool.{Bool, true, false, cond, _||_, not}
 use mathlib.Core.List.{List, [], _∷_}
-use Prim.Native.Nat.{ℕ, zero, suc, _+_, _*_, _-_, _≤_, _<_}
+use Prim.Native.Nat.{ℕ, _+_, _-_, _≤_, _<_}
 use native.Mathlib.Nat.{add-zero}
 use native.Mathlib.Omega.{arith}
 use borrow.Author.Tests.{lt-ltb, le-ltb, eq-eqb, ne-eqb, ltb-false, eqb-true}
@@ -41,29 +41,20 @@ module _ (tape : List ℕ) (place : ℕ) where
     unfolding lineAt
     line-length-bad bad = rw (le-ltb (length tape) (place + 2) (omega arith), announced-there, ← field, bad)
 
-    pub line-cut : badLength bytes ≡ false → length tape - place - 2 < bytes → lineAt version1 tape place ≡ Refused forTapeEnd
+    line-sized :
+        badLength bytes ≡ false →
+        lineAt version1 tape place
+        ≡ cond (ltb (length tape) (place + 2 + bytes)) (Refused forTapeEnd) (Line (place + 2) (place + 2 + bytes))
     unfolding lineAt
-    line-cut good h =
-        rw (
-          le-ltb (length tape) (place + 2) (omega arith),
-          announced-there,
-          ← field,
-          good,
-          lt-ltb (length tape) (place + 2 + bytes) (omega arith),
-        )
+    line-sized good = rw (le-ltb (length tape) (place + 2) (omega arith), announced-there, ← field, good)
+
+    pub line-cut : badLength bytes ≡ false → length tape - place - 2 < bytes → lineAt version1 tape place ≡ Refused forTapeEnd
+    line-cut good h = line-sized good ∙ rw (lt-ltb (length tape) (place + 2 + bytes) (omega arith))
 
     pub line-whole :
         badLength bytes ≡ false → bytes ≤ length tape - place - 2 →
         lineAt version1 tape place ≡ Line (place + 2) (place + 2 + bytes)
-    unfolding lineAt
-    line-whole good h =
-        rw (
-          le-ltb (length tape) (place + 2) (omega arith),
-          announced-there,
-          ← field,
-          good,
-          le-ltb (length tape) (place + 2 + bytes) (omega arith),
-        )
+    line-whole good h = line-sized good ∙ rw (le-ltb (length tape) (place + 2 + bytes) (omega arith))
 
 -- Reading at a place, by the tests of the code.
 module _ (tape : List ℕ) (place : ℕ) where

@@ -1,5 +1,5 @@
 -- `stretch_at` meets its contract.
-use mathlib.Core.Path.{_≡_, _∙_, sym, refl, ap}
+use mathlib.Core.Path.{_≡_, _∙_, sym, refl}
 use mathlib.Core.List.{List, [], _∷_}
 use Prim.Native.Nat.{ℕ}
 use borrow.Author.Needs.{needs}
@@ -14,9 +14,6 @@ use Rattle.tape.proofs.ReadingLaws.{line-there}
 use Rattle.tape.proofs.reading.Place as declared
 use Rattle.tape.proofs.stretch.stretch_at.Statement.{statement}
 use Rattle.tape.proofs.stretch.stretch_at.Tie as tie
-use Rattle.tape.proofs.stretch.stretch_at.Reads as reads
-use Rattle.tape.proofs.stretch.stretch_at.Lts as lts
-use Rattle.tape.proofs.reading.read_at.Reads as read-at-reads
 
 -- A reading that is no line names no stretch.
 no-line : (tape : List ℕ) (found : Place) → OneOf (1 ∷ 2 ∷ []) (Declared.tagOf declared.the-type found) → stretchOf tape found ≡ []
