@@ -4,6 +4,12 @@ use libc::STDIN_FILENO;
 use libc::STDOUT_FILENO;
 use listing_text::Next;
 
+// One byte more than the longest tape that is listed.
+const ROOM: usize = 65537;
+
+// More steps than such a tape has lines.
+const STEPS: u32 = 65537;
+
 // Writes the printed line at the start of a room.
 fn show(out: &[u8; 64], length: usize)
     requires { ⌜ length ≤ 64 ⌝ }
@@ -19,7 +25,7 @@ fn list(tape: &[u8]) {
     show(&out, opened.length);
     let mut next = opened.next;
     let mut state = opened.state;
-    for line in 0..65537u32 {
+    for line in 0..STEPS {
         let Next::Line(place) = next else {
             return;
         };
@@ -30,9 +36,9 @@ fn list(tape: &[u8]) {
     }
 }
 
-// Reads at most one byte more than the longest tape that is listed.
+// Reads the tape and lists it. What lies beyond the room is not read: the tape is too long then.
 fn main() {
-    let mut room = [0u8; 65537];
+    let mut room = [0u8; ROOM];
     let count = io::read_full(STDIN_FILENO, &mut room);
     list(&room[..count]);
 }

@@ -1,7 +1,9 @@
 -- A tape: what stands at a place, and the stretch of a line's writes.
 use Prim.Native.Nat.{ℕ, _+_, _*_, _-_}
+use mathlib.Core.Path.{_≡_}
 use mathlib.Core.Bool.{Bool, true, cond, _||_, not}
 use mathlib.Core.List.{List, [], _∷_}
+use denote.Ref.{RefT, ptr}
 use lib.Dec.{eqb, ltb}
 use lib.ListN.{length, getD, take, drop}
 use Rattle.laws.specs.Numbers.{badLength, forListLength, forVersion, forTapeEnd}
@@ -52,6 +54,18 @@ stretchOf tape (Refused n) = []
 
 unfoldable pub stretchAt : List ℕ → (place : ℕ) → List ℕ
 stretchAt tape place = stretchOf tape (readAt tape place)
+
+-- It is handed back as the tape itself: it lies in the tape's memory, from the line's start on; an empty one from the tape's start.
+abbrev pub startOf : Place → ℕ
+startOf (Line start end) = start
+startOf Ended = 0
+startOf (Refused n) = 0
+
+unfoldable pub startAt : List ℕ → (place : ℕ) → ℕ
+startAt tape place = startOf (readAt tape place)
+
+abbrev pub PartFrom : (index : ℕ) (whole part : RefT (List ℕ)) → Type 0
+PartFrom index whole part = ptr part ≡ (ptr whole .0, index + ptr whole .1)
 
 -- The paper's numbers for each case: the refusal number (0: not refused), the index of the record at fault, and the line's start
 -- and end, 0 where there is no line.

@@ -9,8 +9,17 @@ use crate::refusal::LIST_LENGTH;
 use crate::refusal::TAPE_END;
 use crate::refusal::VERSION;
 
+// The version byte.
+const VERSION_BYTE: u8 = 1;
+
 // Where the first line begins.
 pub const FIRST_PLACE: usize = 1;
+
+// How many bytes a line's length has.
+const LENGTH_BYTES: usize = 2;
+
+// The longest write list: 228 records.
+const LONGEST: usize = 684;
 
 // What stands at a place: a line, whose writes are the bytes from start up to end, which is the next place; the tape's end;
 // or a refusal with its number.
@@ -28,7 +37,7 @@ fn is_bad_version(tape: &[u8]) -> bool
         return true;
     }
     let version = tape[0];
-    version != 1
+    version != VERSION_BYTE
 }
 
 // The number of two bytes, the higher first.
@@ -42,7 +51,7 @@ fn big_endian(high: u8, low: u8) -> usize
 fn is_bad_length(bytes: usize) -> bool
     ensures { λ r. ⌜ r ≡ badLength bytes ⌝ }
 {
-    (bytes % 3 != 0) | (bytes > 684)
+    (bytes % 3 != 0) | (bytes > LONGEST)
 }
 
 // The line at a place. Refuses a lone length byte (9), a length that no write list has (4), then a line that is cut (9).
@@ -51,17 +60,17 @@ fn line_at(tape: &[u8], place: usize) -> Place
     ensures { λ r. ⌜ r ≡ lineAt version1 (now (tape .entry)) place ⌝ }
 {
     let left = tape.len() - place;
-    if left < 2 {
+    if left < LENGTH_BYTES {
         return Place::Refused(TAPE_END);
     }
     let bytes = big_endian(tape[place], tape[place + 1]);
     if is_bad_length(bytes) {
         return Place::Refused(LIST_LENGTH);
     }
-    if left - 2 < bytes {
+    if left - LENGTH_BYTES < bytes {
         return Place::Refused(TAPE_END);
     }
-    let start = place + 2;
+    let start = place + LENGTH_BYTES;
     Place::Line {
         start,
         end: start + bytes,

@@ -21,7 +21,7 @@ returns c =
     let lined = c .before .before .before .before in
     let stretched = lined .before .before in
     let told = stretched .before .before in
-    play-line _ _ _ _ _ (told .before .before .read-at .ensures) _ _ (told .found .given .1) _ (stretched .stretch-at .ensures) _ _ (lined .line .ensures) _ (c .line-verdict .ensures)
+    play-line _ _ _ _ _ (told .before .before .read-at .ensures) _ _ (told .found .given .1) _ (stretched .stretch-at .ensures .0) _ _ (lined .line .ensures) _ (c .line-verdict .ensures)
 
 returns-2 : tie.Need-returns-2
 returns-2 c = play-ended _ _ _ _ _ (c .before .before .read-at .ensures) (c .enum-told .given .1)
