@@ -3,12 +3,11 @@ use mathlib.Core.Path.{_≡_, _∙_, refl}
 use mathlib.Core.Bool.{Bool, true, false, cond, _||_, not}
 use mathlib.Core.List.{List, [], _∷_}
 use Prim.Native.Nat.{ℕ, _+_, _-_, _≤_, _<_}
-use native.Mathlib.Nat.{add-zero}
 use native.Mathlib.Omega.{arith}
 use borrow.Author.Tests.{lt-ltb, le-ltb, eq-eqb, ne-eqb, ltb-false, eqb-true}
 use lib.Dec.{eqb, ltb}
 use lib.ListN.{length, getD, drop, length-drop}
-use lib.Seq.{getD-drop, length-take-le}
+use lib.Seq.{length-take-le}
 use Rattle.laws.proofs.Bools.{or-second}
 use Rattle.laws.specs.Numbers.{badLength, forListLength, forVersion, forTapeEnd}
 use Rattle.tape.specs.declared.reading.Place.{Place}
@@ -29,9 +28,6 @@ version-byte (v ∷ rest) some = refl
 
 -- The line at a place, with the two bytes of its length.
 module _ (tape : List ℕ) (place : ℕ) where
-  pub announced-there : version1 .announced (drop place tape) ≡ lengthAt tape place
-  announced-there = simp (getD-drop, add-zero)
-
   pub lone-byte : length tape - place < 2 → lineAt version1 tape place ≡ Refused forTapeEnd
   unfolding lineAt
   lone-byte h = rw (lt-ltb (length tape) (place + 2) (omega arith))
@@ -39,14 +35,14 @@ module _ (tape : List ℕ) (place : ℕ) where
   module _ (enough : 2 ≤ length tape - place) (bytes : ℕ) (field : bytes ≡ lengthAt tape place) where
     pub line-length-bad : badLength bytes ≡ true → lineAt version1 tape place ≡ Refused forListLength
     unfolding lineAt
-    line-length-bad bad = rw (le-ltb (length tape) (place + 2) (omega arith), announced-there, ← field, bad)
+    line-length-bad bad = rw (le-ltb (length tape) (place + 2) (omega arith), ← field, bad)
 
     line-sized :
         badLength bytes ≡ false →
         lineAt version1 tape place
         ≡ cond (ltb (length tape) (place + 2 + bytes)) (Refused forTapeEnd) (Line (place + 2) (place + 2 + bytes))
     unfolding lineAt
-    line-sized good = rw (le-ltb (length tape) (place + 2) (omega arith), announced-there, ← field, good)
+    line-sized good = rw (le-ltb (length tape) (place + 2) (omega arith), ← field, good)
 
     pub line-cut : badLength bytes ≡ false → length tape - place - 2 < bytes → lineAt version1 tape place ≡ Refused forTapeEnd
     line-cut good h = line-sized good ∙ rw (lt-ltb (length tape) (place + 2 + bytes) (omega arith))
@@ -104,7 +100,7 @@ module _ (tape : List ℕ) (place : ℕ) where
   pub read-answered : Answered tape place (readAt tape place)
   unfolding readAt placeAt lineAt
   read-answered =
-      let bytes = version1 .announced (drop place tape) in
+      let bytes = lengthAt tape place in
       let end = place + 2 + bytes in
       let same : end - (place + 2) ≡ bytes = omega arith in
       answered-by-tests
@@ -119,7 +115,7 @@ module _ (tape : List ℕ) (place : ℕ) where
       (eqb-true place (length tape))
       (λ good whole. record {
         start-is = refl;
-        end-is = omega (arith, announced-there tape place);
+        end-is = refl;
         inside = ltb-false (length tape) end whole;
         listed = rw same good;
       })

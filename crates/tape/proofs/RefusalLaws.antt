@@ -7,16 +7,16 @@ use Prim.Native.Nat.{ℕ, _+_, _%_, _≤_, _<_}
 use native.Mathlib.Omega.{arith}
 use borrow.Author.Tests.{lt-ltb, le-ltb, le-leb, lt-leb, eq-eqb, ne-eqb, ltb-false}
 use lib.Dec.{eqb, ltb, leb}
-use lib.ListN.{length, drop}
+use lib.ListN.{length}
 use Rattle.laws.specs.Refusal.{GivenInOrder}
 use Rattle.laws.specs.Numbers.{badLength, forListLength, forVersion, forTapeEnd}
 use Rattle.laws.proofs.Bools.{or-second}
 use Rattle.laws.proofs.Split.{split}
 use Rattle.laws.proofs.Decides.{Decides, less, at-most, equal, differs, negation, either, both}
 use Rattle.laws.proofs.Refusals.{Check, check, firstOf, in-order}
-use Rattle.tape.specs.Reading.{badVersion, version1, lineAt, placeAt, readAt, placeAnswer}
+use Rattle.tape.specs.Reading.{badVersion, lineAt, placeAt, readAt, placeAnswer}
 use Rattle.tape.specs.ReadingRows.{lengthAt, Unversioned, readingRows}
-use Rattle.tape.proofs.ReadingLaws.{announced-there, byTests}
+use Rattle.tape.proofs.ReadingLaws.{byTests}
 
 -- The version test decides row 8.
 version-decided : (tape : List ℕ) → Decides (badVersion tape) (Unversioned tape)
@@ -114,8 +114,7 @@ module _ (tape : List ℕ) (place : ℕ) where
   reading-number : placeAnswer (readAt tape place) .number ≡ firstOf readingChecks
   unfolding readAt placeAt lineAt
   reading-number =
-      let bytes = version1 .announced (drop place tape) in
-      let read = lengthAt tape place in
+      let bytes = lengthAt tape place in
       number-by-tests
       (badVersion tape)
       outside
@@ -125,13 +124,12 @@ module _ (tape : List ℕ) (place : ℕ) where
       (ltb (length tape) (place + 2 + bytes))
       (place + 2)
       (place + 2 + bytes)
-      ∙ rw (announced-there tape place)
-      (ap (cond (badVersion tape) forVersion)
+      ∙ ap (cond (badVersion tape) forVersion)
       (tests-agree
       outside
       (λ inside. omega (arith, ltb-false (length tape) place (or-second (ltb place 1) _ inside)))
-      (badLength read)
-      (ltb (length tape) (place + 2 + read))))
+      (badLength bytes)
+      (ltb (length tape) (place + 2 + bytes)))
 
   -- Reading refuses by rows 8, 9 and 4, and nothing else.
   pub read-refused-exactly : GivenInOrder (readingRows tape place) (placeAnswer (readAt tape place) .number)

@@ -16,22 +16,22 @@ badVersion [] = true
 badVersion (version ∷ rest) = not (eqb version 1)
 
 -- How the lines of a version are written: the place of the first line, how many bytes of a line come before its writes, and how
--- many bytes of writes a line announces.
+-- many bytes of writes the line at a place announces.
 pub record Form : Type 0 where
   pub first : ℕ
   pub ahead : ℕ
-  pub announced : List ℕ → ℕ
+  pub announced : (tape : List ℕ) (place : ℕ) → ℕ
 
 -- Version 1: after the version byte, for each line a two-byte big-endian length and that many bytes of writes.
 abbrev pub version1 : Form
-version1 = record { first = 1; ahead = 2; announced = λ line. 256 * getD line 0 0 + getD line 1 0 }
+version1 = record { first = 1; ahead = 2; announced = λ tape place. 256 * getD tape place 0 + getD tape (place + 1) 0 }
 
 -- The line at a place before the tape's end. Refusal 9 for a lone length byte, 4 for a length that no write list has, then 9
 -- where the tape is cut short. The line's end is the next place.
 unfoldable pub lineAt : Form → List ℕ → (place : ℕ) → Place
 lineAt form tape place =
     let start = place + form .ahead in
-    let bytes = form .announced (drop place tape) in
+    let bytes = form .announced tape place in
     cond (ltb (length tape) start) (Refused forTapeEnd)
     (cond (badLength bytes) (Refused forListLength)
     (cond (ltb (length tape) (start + bytes)) (Refused forTapeEnd) (Line start (start + bytes))))

@@ -1,5 +1,5 @@
 -- What is said of reading a tape: the rows of the refusal table, when the tape has ended, and where a line lies.
-use Prim.Native.Nat.{ℕ, _+_, _*_, _-_, _%_, _≤_, _<_}
+use Prim.Native.Nat.{ℕ, _+_, _-_, _%_, _≤_, _<_}
 use mathlib.Core.Path.{_≡_}
 use mathlib.Core.Logic.{_⊎_}
 use mathlib.Core.Bool.{false}
@@ -9,10 +9,11 @@ use Rattle.laws.specs.Refusal.{Row, row}
 use Rattle.laws.specs.Numbers.{badLength, forListLength, forVersion, forTapeEnd}
 use Rattle.tape.specs.declared.reading.Place.{Place}
 use Rattle.tape.specs.declared.reading.Place.the-variants.{Line, Ended, Refused}
+use Rattle.tape.specs.Reading.{version1}
 
--- The number of the two length bytes at a place, the higher first, and that both are there.
+-- The length of the line at a place, and that its two bytes are there.
 abbrev pub lengthAt : List ℕ → (place : ℕ) → ℕ
-lengthAt tape place = 256 * getD tape place 0 + getD tape (place + 1) 0
+lengthAt tape place = version1 .announced tape place
 
 abbrev pub HasLength : List ℕ → (place : ℕ) → Type 0
 HasLength tape place = place + 2 ≤ length tape
