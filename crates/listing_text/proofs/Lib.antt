@@ -1,4 +1,5 @@
 -- Laws of the listing's text.
+pub mod FollowLaws
 pub mod LineTextLaws
 pub mod ListingLaws
 pub mod PrintedProof

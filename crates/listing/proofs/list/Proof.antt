@@ -1,11 +1,13 @@
--- `list` is safe and ends: it takes at most 65,537 steps after the first.
+-- `list` is safe, ends, and follows the steps of the listing: before each turn what is printed and what the steps from here print
+-- are the listing of the tape.
 use borrow.Author.Needs.{needs}
 use Prim.Native.Nat.{_≤_, _-_}
+use Rattle.listing_text.proofs.FollowLaws.{Following, follows-opening, follows-line}
 use Rattle.listing.proofs.list.Statement.{statement}
 use Rattle.listing.proofs.list.Tie as tie
 
 abbrev Inv-loop : tie.InvT-loop
-Inv-loop tape out₀ next₀ state₀ line₀ out next state line = line ≤ 65537
+Inv-loop tape out₀ next₀ state₀ line₀ out next state line = (line ≤ 65537) × Following tape (65537 - line) line state next
 
 abbrev μ-loop : tie.MeasureT-loop
 μ-loop tape out₀ next₀ state₀ line₀ out next state line = 65537 - line
@@ -14,7 +16,7 @@ show-requires : tie.Need-show-requires Inv-loop μ-loop
 show-requires c κs = search needs
 
 loop-holds : tie.Need-loop-holds Inv-loop μ-loop
-loop-holds c = search needs
+loop-holds c = (search needs, follows-opening _ _ (c .before .before .before .opening .ensures))
 
 enum-known-next : tie.Need-enum-known-next Inv-loop μ-loop
 enum-known-next c = search needs
@@ -35,7 +37,12 @@ loop-less : tie.Need-loop-less Inv-loop μ-loop
 loop-less c = search needs
 
 loop-again : tie.Need-loop-again Inv-loop μ-loop
-loop-again c = search needs
+loop-again c =
+    let listed = c .before .before .before in
+    let told = listed .before .before .before in
+    let turn = told .before .before in
+    let before = rw (told .next .given .1) at (turn .before .loop .inv .1) in
+    (search needs, follows-line _ _ _ _ _ (turn .loop-test .taken) before (listed .list-line .ensures))
 
 returns-2 : tie.Need-returns-2 Inv-loop μ-loop
 returns-2 c = search needs
