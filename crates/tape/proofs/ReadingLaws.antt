@@ -89,12 +89,12 @@ module _ (tape : List ℕ) (place : ℕ) where
       (version out ended short bad cut : Bool) (start end : ℕ) → (ended ≡ true → place ≡ length tape) →
       (bad ≡ false → cut ≡ false → LineThere tape place start end) →
       Answered tape place (byTests version out ended short bad cut start end)
-  answered-by-tests true out ended short bad cut start end at-end there = tt
-  answered-by-tests false true ended short bad cut start end at-end there = tt
+  answered-by-tests true out ended short bad cut start end at-end there = λ e. omega arith
+  answered-by-tests false true ended short bad cut start end at-end there = λ e. omega arith
   answered-by-tests false false true short bad cut start end at-end there = at-end refl
-  answered-by-tests false false false true bad cut start end at-end there = tt
-  answered-by-tests false false false false true cut start end at-end there = tt
-  answered-by-tests false false false false false true start end at-end there = tt
+  answered-by-tests false false false true bad cut start end at-end there = λ e. omega arith
+  answered-by-tests false false false false true cut start end at-end there = λ e. omega arith
+  answered-by-tests false false false false false true start end at-end there = λ e. omega arith
   answered-by-tests false false false false false false start end at-end there = there refl refl
 
   pub read-answered : Answered tape place (readAt tape place)

@@ -19,7 +19,7 @@ use Rattle.tape.specs.ReadingRows.{lengthAt, Unversioned, readingRows}
 use Rattle.tape.proofs.ReadingLaws.{byTests}
 
 -- The version test decides row 8.
-version-decided : (tape : List ℕ) → Decides (badVersion tape) (Unversioned tape)
+pub version-decided : (tape : List ℕ) → Decides (badVersion tape) (Unversioned tape)
 unfolding badVersion
 version-decided [] = record { holds = λ e. inl refl; fails = λ e. absurd (true≢false e) }
 version-decided (v ∷ rest) =
@@ -47,22 +47,22 @@ cut-or-bad false false = refl
 
 module _ (tape : List ℕ) (place : ℕ) where
   -- The tests that decide the rows.
-  abbrev outside : Bool
+  abbrev pub outside : Bool
   outside = ltb place 1 || ltb (length tape) place
 
-  abbrev whole : Bool
+  abbrev pub whole : Bool
   whole = leb (place + 2) (length tape)
 
-  abbrev badLine : Bool
+  abbrev pub badLine : Bool
   badLine = whole && badLength (lengthAt tape place)
 
-  abbrev cutLine : Bool
+  abbrev pub cutLine : Bool
   cutLine = whole && ltb (length tape) (place + 2 + lengthAt tape place)
 
-  abbrev tapeEnd : Bool
+  abbrev pub tapeEnd : Bool
   tapeEnd = (outside || eqb (place + 1) (length tape)) || (not badLine && cutLine)
 
-  abbrev readingChecks : List {1} Check
+  abbrev pub readingChecks : List {1} Check
   readingChecks =
       let long = either _ _ (differs (lengthAt tape place % 3) 0) (less 684 (lengthAt tape place)) in
       let bad = both whole _ (at-most (place + 2) (length tape)) long in
@@ -111,7 +111,7 @@ module _ (tape : List ℕ) (place : ℕ) where
       (split place (length tape)))
       (split (place + 1) (length tape))
 
-  reading-number : placeAnswer (readAt tape place) .number ≡ firstOf readingChecks
+  pub reading-number : placeAnswer (readAt tape place) .number ≡ firstOf readingChecks
   unfolding readAt placeAt lineAt
   reading-number =
       let bytes = lengthAt tape place in

@@ -50,8 +50,8 @@ pub record LineThere (tape : List ℕ) (place start end : ℕ) : Type 0 where
   pub inside : end ≤ length tape
   pub listed : badLength (end - start) ≡ false
 
--- What is so where a reading is given: a line lies there, or the place is the tape's end. The rows say when it is refused.
+-- What is so of a reading: a line lies there, or the place is the tape's end, or the refusal has a number; the rows say which.
 abbrev pub Answered : List ℕ → (place : ℕ) → Place → Type 0
 Answered tape place (Line start end) = LineThere tape place start end
 Answered tape place Ended = place ≡ length tape
-Answered tape place (Refused n) = Unit {0}
+Answered tape place (Refused n) = n ≡ 0 → ⊥

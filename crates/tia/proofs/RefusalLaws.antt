@@ -28,7 +28,7 @@ use Rattle.tia.specs.LineRows.{IndexGiven, lineRows, firstLitRows}
 use Rattle.tia.proofs.FirstBadLaws.{list-decided, fault-number, list-index}
 
 -- The state check decides row 1.
-bad-decided : (s : State) → Decides (badState s) (badStateRow s .when)
+pub bad-decided : (s : State) → Decides (badState s) (badStateRow s .when)
 unfolding badState
 bad-decided s = either (not (inRange s)) (liveAtRest s) (misses (inRange s)) (passes (liveAtRest s))
 
@@ -63,7 +63,7 @@ read-out-refused-exactly s =
     rw (read-out-number (badState s) (s .latches)) (in-order (check forBadState (badState s) (bad-decided s) ∷ []) refl)
 
 -- The tests of a line call, in their order.
-abbrev lineChecks : State → List ℕ → (room : ℕ) → List {1} Check
+abbrev pub lineChecks : State → List ℕ → (room : ℕ) → List {1} Check
 lineChecks s ws room =
     let number = firstFault 0 0 (recordsOf ws) .number in
     check forBadState (badState s) (bad-decided s)
@@ -86,7 +86,7 @@ fault-by-tests false false true list later = refl
 fault-by-tests false false false true later = refl
 fault-by-tests false false false false later = refl
 
-line-number : (s : State) (ws : List ℕ) (room : ℕ) → lineAnswer s ws room .number ≡ firstOf (lineChecks s ws room)
+pub line-number : (s : State) (ws : List ℕ) (room : ℕ) → lineAnswer s ws room .number ≡ firstOf (lineChecks s ws room)
 unfolding lineAnswer lineFault listFault
 line-number s ws room =
     fault-by-tests
