@@ -3,29 +3,17 @@
 
 use crate::collisions::read_out;
 use crate::first_lit::first_lit_text;
+use crate::input::{tape_of_input, MOST_TAPE_BYTES};
 use crate::line_faults::COLUMNS;
 use crate::object::NAMES;
 use crate::refusal::Refusal;
 use crate::replay::replay;
 use std::io::{self, Read, Write};
 
-/// The most bytes of a tape that is listed.
-pub const MOST_TAPE_BYTES: usize = 65_536;
-
 /// Writes the listing of the tape that is the input. A read error counts as the end of the input;
 /// ends early with the first write error.
 pub fn write(input: &mut dyn Read, out: &mut dyn Write) -> io::Result<()> {
     out.write_all(listing(&tape_of_input(input)).as_bytes())
-}
-
-/// The bytes of an input up to its end or its first read error, at most one more than a listed
-/// tape has.
-fn tape_of_input(input: &mut dyn Read) -> Vec<u8> {
-    let mut tape = Vec::new();
-    let _ = input
-        .take(MOST_TAPE_BYTES as u64 + 1)
-        .read_to_end(&mut tape);
-    tape
 }
 
 /// The text of the listing: the heading, a row for each line run, and the latches or the refusal
@@ -74,6 +62,7 @@ fn refusal_text(refusal: Refusal, line: usize) -> String {
 mod tests {
     use super::*;
     use crate::bench::PRINTED_TAPE;
+    use crate::giving::Giving;
     use crate::tape::tape_of;
 
     const HEADING: &str = "line P0 P1 M0 M1 BL PF\n";
@@ -96,26 +85,6 @@ cx 00 00 00 00 00 00 00 00
     /// The rows of lines that show nothing.
     fn dark_rows(lines: usize) -> String {
         (0..lines).map(|n| format!("{} - - - - - -\n", n)).collect()
-    }
-
-    /// A reader that gives so many bytes at a time and then, if asked for, an error.
-    struct Giving<'a> {
-        bytes: &'a [u8],
-        at_once: usize,
-        fails: bool,
-    }
-
-    impl Read for Giving<'_> {
-        fn read(&mut self, into: &mut [u8]) -> io::Result<usize> {
-            if self.bytes.is_empty() && self.fails {
-                return Err(io::ErrorKind::Other.into());
-            }
-            let given = self.bytes.len().min(self.at_once).min(into.len());
-            let (now, later) = self.bytes.split_at(given);
-            into[..given].copy_from_slice(now);
-            self.bytes = later;
-            Ok(given)
-        }
     }
 
     /// What is written for an input of these bytes, given so many at a time.
@@ -239,13 +208,8 @@ cx 00 00 00 00 00 00 00 00
     }
 
     #[test]
-    fn at_most_65537_bytes_are_read() {
-        let bytes = vec![0; 200_000];
-        let mut input = &bytes[..];
-        assert_eq!(tape_of_input(&mut input).len(), 65_537);
-        assert_eq!(input.len(), 200_000 - 65_537);
-        assert_eq!(written(&bytes, 65_536, false), "tape too long\n");
-        assert_eq!(tape_of_input(&mut &bytes[..65_536]).len(), 65_536);
+    fn a_longer_input_is_too_long() {
+        assert_eq!(written(&[0; 200_000], 65_536, false), "tape too long\n");
     }
 
     #[test]

@@ -102,8 +102,8 @@ fn damaged_tapes(random: &mut Random, length: usize) -> Vec<TestTape> {
 mod tests {
     use super::*;
     use crate::chip_state::State;
+    use crate::input::MOST_TAPE_BYTES;
     use crate::line_faults::line_faults;
-    use crate::listing::MOST_TAPE_BYTES;
     use crate::tape::{line_places, read, stretch, Reading};
 
     /// The tape with this name.

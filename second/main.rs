@@ -1,4 +1,5 @@
-//! The command line of the second program: one command a report, the listing, the test tapes.
+//! The command line of the second program: one command a report, the listing, the object bytes,
+//! the repeated line, the test tapes.
 
 mod bench;
 mod calls;
@@ -19,6 +20,9 @@ mod digest;
 mod failure;
 mod faults;
 mod first_lit;
+#[cfg(test)]
+mod giving;
+mod input;
 mod line;
 mod line_cases;
 mod line_coverage;
@@ -28,6 +32,7 @@ mod listing;
 mod lit;
 mod long_tapes;
 mod object;
+mod object_bytes;
 #[cfg(test)]
 mod played_lines;
 mod random;
@@ -38,6 +43,7 @@ mod random_writes;
 mod refusal;
 mod refused_tapes;
 mod registers;
+mod repeat_line;
 mod replay;
 mod run_cases;
 mod run_coverage;
@@ -73,7 +79,7 @@ struct Command {
     run: fn(&[OsString], &mut dyn Write) -> Result<(), Failure>,
 }
 
-const COMMANDS: [Command; 6] = [
+const COMMANDS: [Command; 8] = [
     Command {
         name: "counter",
         arguments: &[],
@@ -103,6 +109,18 @@ const COMMANDS: [Command; 6] = [
         arguments: &[],
         gives: "the listing of the tape on standard input",
         run: |_, out| Ok(listing::write(&mut io::stdin().lock(), out)?),
+    },
+    Command {
+        name: "object_bytes",
+        arguments: &[],
+        gives: "the answer bytes of each line of the tape on standard input (binary)",
+        run: |_, out| Ok(object_bytes::write(&mut io::stdin().lock(), out)?),
+    },
+    Command {
+        name: "repeat_line",
+        arguments: &[],
+        gives: "the buffer after as many line calls as standard input asks for (binary)",
+        run: |_, out| Ok(repeat_line::write(&mut io::stdin().lock(), out)?),
     },
     Command {
         name: "tapes",
@@ -174,7 +192,16 @@ mod tests {
 
     #[test]
     fn exactly_one_known_name_chooses_a_command() {
-        for name in ["counter", "chip_cases", "chip", "demand3", "listing"] {
+        let names = [
+            "counter",
+            "chip_cases",
+            "chip",
+            "demand3",
+            "listing",
+            "object_bytes",
+            "repeat_line",
+        ];
+        for name in names {
             assert_eq!(name_of(&[name]), Some(name));
             assert_eq!(name_of(&[name, name]), None);
         }

@@ -1,0 +1,76 @@
+-- `show_lines` is safe, ends, and follows the replay: before each turn the lines written and the lines from here on are those of
+-- the replay of the tape.
+use borrow.Author.Needs.{needs}
+use Prim.Native.Nat.{_≤_, _-_}
+use mathlib.Core.Path.{_≡_, refl}
+use lib.ListN.{length}
+use Rattle.object_bytes.proofs.ShownLaws.{Shown, shown-none, shown-more}
+use Rattle.object_bytes.proofs.show_lines.Statement.{statement}
+use Rattle.object_bytes.proofs.show_lines.Tie as tie
+
+abbrev Inv-loop : tie.InvT-loop
+Inv-loop tape bytes₀ state₀ place₀ step₀ bytes state place step =
+    (step ≤ 65537) × (length bytes ≡ 160) × Shown tape (65537 - step) state place bytes
+
+abbrev μ-loop : tie.MeasureT-loop
+μ-loop tape bytes₀ state₀ place₀ step₀ bytes state place step = 65537 - step
+
+loop-holds : tie.Need-loop-holds Inv-loop μ-loop
+loop-holds c = (search needs, refl, rw (c .start .ensures) (shown-none (c .before .before .args .tape .now) _ (search needs)))
+
+slice-aggregate-play-line : tie.Need-slice-aggregate-play-line Inv-loop μ-loop
+slice-aggregate-play-line c = search needs
+
+play-line-requires : tie.Need-play-line-requires Inv-loop μ-loop
+play-line-requires c κs = search needs
+
+enum-known-verdict : tie.Need-enum-known-verdict Inv-loop μ-loop
+enum-known-verdict c = search needs
+
+returns : tie.Need-returns Inv-loop μ-loop
+returns c = search needs
+
+slice-aggregate-write-all : tie.Need-slice-aggregate-write-all Inv-loop μ-loop
+slice-aggregate-write-all c = search needs
+
+write-all-requires : tie.Need-write-all-requires Inv-loop μ-loop
+write-all-requires c κs = search needs
+
+add-step : tie.Need-add-step Inv-loop μ-loop
+add-step c = search needs
+
+loop-less : tie.Need-loop-less Inv-loop μ-loop
+loop-less c = search needs
+
+loop-again : tie.Need-loop-again Inv-loop μ-loop
+loop-again c =
+    let told = c .before .before .before .before in
+    let played = told .before .before .before in
+    let turn = played .before .before in
+    let inv = turn .before .loop .inv in (
+      search needs,
+      search needs,
+      shown-more _ _ _ _ _ _ _ _ (turn .loop-test .taken) (inv .1) (inv .2) (played .play-line .ensures) (told .verdict .given .1),
+    )
+
+returns-2 : tie.Need-returns-2 Inv-loop μ-loop
+returns-2 c = search needs
+
+pub show-lines-spec : {M : Type 1} → statement M
+show-lines-spec =
+    tie.close
+    (tie.spec
+    Inv-loop
+    μ-loop
+    (λ c κs. tt)
+    loop-holds
+    slice-aggregate-play-line
+    play-line-requires
+    enum-known-verdict
+    returns
+    slice-aggregate-write-all
+    write-all-requires
+    add-step
+    loop-less
+    loop-again
+    returns-2)
