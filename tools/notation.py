@@ -90,19 +90,39 @@ def disassemble(tape):
 def tape_lines(text):
     """The lines of the tape that a text describes, as writes. Fails as assemble does."""
     lines = []
-    for number, row in enumerate(LINE_END.split(text), start=1):
-        tokens = re.findall("[^ \t]+", row.partition(";")[0])
+    for number, tokens in rows(text):
         try:
-            if tokens:
-                take(lines, tokens)
+            take(lines, tokens)
         except ValueError as error:
             raise SourceError(number, str(error)) from None
     return lines
 
 
+def write_rows(text):
+    """For each line of the tape that a text describes, the rows of its writes: their numbers, counted from 1, and tokens."""
+    lines = []
+    for number, tokens in rows(text):
+        if begins_line(tokens):
+            lines.append([])
+        else:
+            lines[-1].append((number, tokens))
+    return lines
+
+
+def rows(text):
+    """The rows of a text that say something: their numbers, counted from 1, and their tokens."""
+    split = ((number, re.findall("[^ \t]+", row.partition(";")[0])) for number, row in enumerate(LINE_END.split(text), start=1))
+    return [(number, tokens) for number, tokens in split if tokens]
+
+
+def begins_line(tokens):
+    """Whether a row's tokens begin a line of the tape."""
+    return tokens[0].lower() == "line"
+
+
 def take(lines, tokens):
     """Adds a row of the text to the lines of the tape: a new line, or a write to the last. Fails with ValueError."""
-    if tokens[0].lower() == "line":
+    if begins_line(tokens):
         if len(tokens) > 1:
             raise ValueError(f"found {shown(tokens[1])} after 'line': expected nothing more")
         lines.append([])

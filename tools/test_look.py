@@ -329,6 +329,13 @@ class Script(unittest.TestCase):
             self.assertIn(row, rows)
             self.assertEqual(rows[-2:], [last, meaning(last.split()[1], REFUSALS)])
 
+    def test_where_a_source_is_refused(self):
+        before = "line\n\nline ; two\n  3 grp0 1 ; first\n"
+        for number, write in ((5, " 228 GRP0 7"), (6, " 3 GRP0 7"), (7, " 9 $2d 7")):
+            rows = self.rows(self.file("a.txt", f"{before}{write} ; here\nline\n"))
+            self.assertEqual(rows[-3], f"refused {number} line 1 record 1")
+            self.assertEqual(rows[-1], f"a.txt:5:{write}")
+
     def test_longest_and_too_long(self):
         longest = bytes([1] + [0] * 65535)
         self.assertEqual(self.rows("--lines", "32767", "-", tape=longest)[-2], "refused 9 line 32767 record 0")
