@@ -9,15 +9,18 @@ class Failure(Exception):
     """What is told on standard error before the tool ends with exit status 1."""
 
 
-def main(description, input_name, output_name, convert):
-    """Runs the tool: convert takes the input's name and bytes, gives the output's bytes or fails with Failure.
-    Gives the exit status; on a failure nothing has been written to the output."""
+def main(description, input_name, output_name, convert, is_text=True):
+    """Runs the tool: convert takes the input's name and bytes, gives the output's bytes or fails with Failure. What is no text is
+    not written to a terminal. Gives the exit status; on a failure nothing has been written to the output."""
     parser = argparse.ArgumentParser(description=description)
     parser.add_argument("input", nargs="?", default="-", metavar=input_name, help="default: standard input, also as -")
     parser.add_argument("-o", dest="output", default="-", metavar=output_name, help="default: standard output, also as -")
     names = parser.parse_args()
     try:
-        write_output(names.output, names.input, convert(*read_input(names.input)))
+        data = convert(*read_input(names.input))
+        if names.output == "-" and not is_text and os.isatty(1):
+            raise Failure(f"standard output is a terminal: name a file for the {output_name.lower()} with -o")
+        write_output(names.output, names.input, data)
     except Failure as failure:
         print(failure, file=sys.stderr)
         return 1

@@ -1,5 +1,6 @@
 """The notation of tapes as text: its registers, the assembler (text to tape) and the disassembler (tape to text)."""
 
+import difflib
 import re
 from typing import NamedTuple
 
@@ -49,6 +50,7 @@ NAMES = {register.address: name for name, register in REGISTERS.items()}
 LINE_END = re.compile("\r\n|\r|\n")
 NUMBER = re.compile(r"\$(?P<hexadecimal>[0-9A-Fa-f]+)|%(?P<binary>[01]+)|(?P<decimal>[0-9]+)")
 BASES = {"hexadecimal": 16, "binary": 2, "decimal": 10}
+NOTHING_MORE = "expected nothing more; a comment begins with ';'"
 
 
 class SourceError(Exception):
@@ -124,7 +126,7 @@ def take(lines, tokens):
     """Adds a row of the text to the lines of the tape: a new line, or a write to the last. Fails with ValueError."""
     if begins_line(tokens):
         if len(tokens) > 1:
-            raise ValueError(f"found {shown(tokens[1])} after 'line': expected nothing more")
+            raise ValueError(f"found {shown(tokens[1])} after 'line': {NOTHING_MORE}")
         lines.append([])
         return
     write = write_of(tokens)
@@ -137,12 +139,12 @@ def take(lines, tokens):
 
 def write_of(tokens):
     """The write that a row's tokens describe: clock, register, value. Fails with ValueError."""
-    clock = byte_of(tokens[0], "'line' or a clock")
+    clock = byte_of(tokens[0], "'line' or a clock", 227)
     if len(tokens) == 1:
         raise ValueError("found a clock alone: expected a register after it, such as HMM0")
     address = address_of(tokens[1])
     if len(tokens) > 3:
-        raise ValueError(f"found {shown(tokens[3])} after the value: expected nothing more")
+        raise ValueError(f"found {shown(tokens[3])} after the value: {NOTHING_MORE}")
     if len(tokens) == 3:
         return clock, address, byte_of(tokens[2], "a value")
     if not is_strobe(address):
@@ -156,21 +158,33 @@ def address_of(token):
         return byte_of(token, "an address")
     name = token.upper()
     if not token.isascii() or name not in REGISTERS:
-        expected = "expected a register name such as HMM0, or an address from $00 to $FF"
+        expected = f"expected a register name such as {alike(name)}, or an address from $00 to $FF"
         raise ValueError(f"unknown register {shown(token)}: {expected}")
     return REGISTERS[name].address
 
 
-def byte_of(token, wanted):
-    """The number from 0 to 255 that a token writes. Fails with ValueError, which names what was wanted."""
+def alike(name):
+    """The register's name that is most like another name; some name where none is like it."""
+
+    def likeness(register):
+        return difflib.SequenceMatcher(None, name[:24], register).ratio()
+
+    best = max(REGISTERS, key=likeness)
+    return best if likeness(best) > 0.6 else "HMM0"
+
+
+def byte_of(token, wanted, most=255):
+    """The number from 0 to 255 that a token writes. Fails with ValueError, which names what was wanted and the most that has a
+    meaning there."""
     match = NUMBER.fullmatch(token)
     if match is None:
-        raise ValueError(f"found {shown(token)}: expected {wanted} (0 to 255, $00 to $FF or %0 to %11111111)")
+        raise ValueError(f"found {shown(token)}: expected {wanted} (0 to {most}, $00 to ${most:02X} or %0 to %{most:b})")
     # Nine digits that count tell a number over 255 in each base.
     digits = match[match.lastgroup].lstrip("0")[:9]
     number = int(digits or "0", BASES[match.lastgroup])
     if number > 255:
-        raise ValueError(f"found {shown(token)}: expected {wanted} from 0 to 255 ($FF)")
+        binary = f"; in binary it is %{token}" if re.fullmatch("[01]{4,8}", token) else ""
+        raise ValueError(f"found {shown(token)}: expected {wanted} from 0 to {most} (${most:02X}){binary}")
     return number
 
 

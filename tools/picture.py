@@ -150,9 +150,9 @@ def met(latches):
 
 
 def meaning(number, refusals):
-    """What a refusal's number means, by the text of docs/REFUSALS.md; for a number not in its table, its name."""
+    """What a refusal's number means and what to do, by the text of docs/REFUSALS.md; for a number not in its table, its name."""
     for row in refusals.splitlines():
         cells = [cell.strip() for cell in row.split("|")]
-        if len(cells) > 2 and cells[1] == number:
-            return cells[2]
+        if len(cells) > 3 and cells[1] == number:
+            return f"{cells[2]} {cells[3]}"
     return "See docs/REFUSALS.md."

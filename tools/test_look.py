@@ -22,6 +22,7 @@ PROJECT = Path(__file__).resolve().parent.parent
 PROGRAMS = ("object_bytes", "listing")
 REFUSALS = (PROJECT / "docs/REFUSALS.md").read_text("utf-8")
 NO_LATCHES = "cx 00 00 00 00 00 00 00 00"
+OVER_227 = "A record's clock is over 227. The clocks of a line are 0 to 227."
 
 # Each object's name and letter, by its bit in an object byte.
 OBJECTS = (("P0", "P"), ("P1", "Q"), ("M0", "M"), ("M1", "N"), ("BL", "B"), ("PF", "F"))
@@ -226,13 +227,13 @@ class Endings(unittest.TestCase):
     def test_each_refusal_has_a_meaning(self):
         meanings = [meaning(str(number), REFUSALS) for number in range(1, 11)]
         self.assertEqual(len(set(meanings)), 10)
-        self.assertEqual(meanings[4], "A record's clock is over 227.")
+        self.assertEqual(meanings[4], OVER_227)
         for number in ("0", "11", ""):
             self.assertEqual(meaning(number, REFUSALS), "See docs/REFUSALS.md.", number)
 
     def test_refusal_in_words(self):
         last = "refused 5 line 3 record 2"
-        self.assertEqual(ending(last, REFUSALS), [last, "A record's clock is over 227."])
+        self.assertEqual(ending(last, REFUSALS), [last, OVER_227])
 
     def test_too_long(self):
         self.assertEqual(ending("tape too long", REFUSALS), ["tape too long", "A tape has at most 65,536 bytes."])
@@ -335,6 +336,12 @@ class Script(unittest.TestCase):
             rows = self.rows(self.file("a.txt", f"{before}{write} ; here\nline\n"))
             self.assertEqual(rows[-3], f"refused {number} line 1 record 1")
             self.assertEqual(rows[-1], f"a.txt:5:{write}")
+
+    def test_a_source_without_lines(self):
+        for text in ("\n", "; nothing\n"):
+            rows = self.rows(self.file("a.txt", text))
+            self.assertEqual(rows, ["no line was run", NO_LATCHES, "met: none", "a.txt has no 'line': expected one for each scanline"])
+        self.assertEqual(self.rows("-", tape=b"\1"), ["no line was run", NO_LATCHES, "met: none"])
 
     def test_longest_and_too_long(self):
         longest = bytes([1] + [0] * 65535)

@@ -1,6 +1,7 @@
 """Tests of the notation, its assembler and its disassembler. Run: python3 tools/test_notation.py"""
 
 import os
+import pty
 import random
 import subprocess
 import sys
@@ -136,42 +137,49 @@ def random_writes(chance, count, addresses):
 
 
 CLOCK = "expected 'line' or a clock"
+CLOCKS = "(0 to 227, $00 to $E3 or %0 to %11100011)"
 NUMBERS = "(0 to 255, $00 to $FF or %0 to %11111111)"
+MORE = "expected nothing more; a comment begins with ';'"
 REGISTER = "expected a register name such as HMM0, or an address from $00 to $FF"
+LIKE_NUSIZ0 = REGISTER.replace("HMM0", "NUSIZ0")
+LIKE_ENAM0 = REGISTER.replace("HMM0", "ENAM0")
 NO_VALUE = "expected a value from 0 to 255; only a strobe needs none"
 
 # Source, the line at fault, the message.
 BAD_SOURCES = [
     ("0 GRP0 1\nline", 1, "found a write before the first 'line': expected 'line', which begins a scanline"),
-    ("line 1", 1, "found '1' after 'line': expected nothing more"),
-    ("line\nline line", 2, "found 'line' after 'line': expected nothing more"),
+    ("line 1", 1, "found '1' after 'line': " + MORE),
+    ("line\nline line", 2, "found 'line' after 'line': " + MORE),
     ("line\n\n; here\n 30", 4, "found a clock alone: expected a register after it, such as HMM0"),
     ("line\n0 HMM2 $70", 2, f"unknown register 'HMM2': {REGISTER}"),
-    ("line\n0 nus\u0131z0 0", 2, f"unknown register 'nus\u0131z0': {REGISTER}"),
+    ("line\n0 nus\u0131z0 0", 2, f"unknown register 'nus\u0131z0': {LIKE_NUSIZ0}"),
+    ("line\n0 enamo 2", 2, f"unknown register 'enamo': {LIKE_ENAM0}"),
+    ("line\n0 XYZ 2", 2, f"unknown register 'XYZ': {REGISTER}"),
     ("line\n0 HMM0\u00a0$70", 2, f"unknown register 'HMM0\\xa0$70': {REGISTER}"),
     ("line\n0 line", 2, f"unknown register 'line': {REGISTER}"),
     ("line\n0 HMM0", 2, f"found no value for HMM0: {NO_VALUE}"),
     ("line\n0 HMM0 ; $70", 2, f"found no value for HMM0: {NO_VALUE}"),
     ("line\n0 $2D", 2, f"found no value for $2D: {NO_VALUE}"),
-    ("line\n256 GRP0 1", 2, f"found '256': {CLOCK} from 0 to 255 ($FF)"),
-    ("line\n-1 GRP0 1", 2, f"found '-1': {CLOCK} {NUMBERS}"),
-    ("line\nGRP0 1", 2, f"found 'GRP0': {CLOCK} {NUMBERS}"),
-    ("lines", 1, f"found 'lines': {CLOCK} {NUMBERS}"),
+    ("line\n256 GRP0 1", 2, f"found '256': {CLOCK} from 0 to 227 ($E3)"),
+    ("line\n-1 GRP0 1", 2, f"found '-1': {CLOCK} {CLOCKS}"),
+    ("line\nGRP0 1", 2, f"found 'GRP0': {CLOCK} {CLOCKS}"),
+    ("lines", 1, f"found 'lines': {CLOCK} {CLOCKS}"),
     ("line\n0 $100 1", 2, "found '$100': expected an address from 0 to 255 ($FF)"),
     ("line\n0 $XY 1", 2, f"found '$XY': expected an address {NUMBERS}"),
     ("line\n0 GRP0 $100", 2, "found '$100': expected a value from 0 to 255 ($FF)"),
     ("line\n0 GRP0 %100000000", 2, "found '%100000000': expected a value from 0 to 255 ($FF)"),
     ("line\n0 GRP0 " + "1" * 5000, 2, f"found '{'1' * 24}...': expected a value from 0 to 255 ($FF)"),
+    ("line\n0 GRP0 11000011", 2, "found '11000011': expected a value from 0 to 255 ($FF); in binary it is %11000011"),
     ("line\n0 GRP0 $1G", 2, f"found '$1G': expected a value {NUMBERS}"),
     ("line\n0 GRP0 %12", 2, f"found '%12': expected a value {NUMBERS}"),
     ("line\n0 GRP0 1F", 2, f"found '1F': expected a value {NUMBERS}"),
     ("line\n0 GRP0 1_0", 2, f"found '1_0': expected a value {NUMBERS}"),
     ("line\n0 GRP0 $", 2, f"found '$': expected a value {NUMBERS}"),
     ("line\n0 GRP0 \u0663", 2, f"found '\u0663': expected a value {NUMBERS}"),
-    ("line\n0 GRP0 1 2", 2, "found '2' after the value: expected nothing more"),
-    ("line\n30 RESM0 0 9 HMOVE", 2, "found '9' after the value: expected nothing more"),
+    ("line\n0 GRP0 1 2", 2, "found '2' after the value: " + MORE),
+    ("line\n30 RESM0 0 9 HMOVE", 2, "found '9' after the value: " + MORE),
     ("line\n" + "0 GRP0 1\n" * 229, 230, "found write number 229 of a line: expected at most 228"),
-    ("line\r\n0 GRP0 1\r\nline\rx", 4, f"found 'x': {CLOCK} {NUMBERS}"),
+    ("line\r\n0 GRP0 1\r\nline\rx", 4, f"found 'x': {CLOCK} {CLOCKS}"),
     ("line\n0 HMM2 1\n0 HMM3 1", 2, f"unknown register 'HMM2': {REGISTER}"),
 ]
 
@@ -281,8 +289,17 @@ class CommandLine(unittest.TestCase):
         self.assertEqual(self.run_tool("assemble", source), (1, b"", message))
 
     def test_bad_source_on_standard_input(self):
-        message = "standard input:1: found '1' after 'line': expected nothing more\n"
+        message = f"standard input:1: found '1' after 'line': {MORE}\n"
         self.assertEqual(self.run_tool("assemble", data=b"line 1"), (1, b"", message))
+
+    def test_no_tape_is_written_to_a_terminal(self):
+        terminal, its_end = pty.openpty()
+        self.addCleanup(os.close, terminal)
+        with os.fdopen(its_end, "wb") as output:
+            command = [sys.executable, os.path.join(TOOLS, "assemble"), self.path("a.txt", b"line\n")]
+            done = subprocess.run(command, stdout=output, stderr=subprocess.PIPE)
+        message = b"standard output is a terminal: name a file for the tape with -o\n"
+        self.assertEqual((done.returncode, done.stderr), (1, message))
 
     def test_a_failure_leaves_the_output_as_it_was(self):
         source, damaged = self.path("bad.txt", b"line\n0"), self.path("bad.tape", b"\x02")
