@@ -37,6 +37,15 @@ def lines_run(text):
     return lines_of(subprocess.run([program], input=assemble(text), stdout=subprocess.PIPE, check=True).stdout)
 
 
+def each_line():
+    """The remark beside each line of each lesson: where it stands, its words, and the line's object bytes, if it was run."""
+    for lesson in LESSONS:
+        text = lesson.read_text("utf-8")
+        run = lines_run(text)
+        for number, words in remarks(text):
+            yield f"{lesson.name}, line {number}: {words}", words, run[number] if number < len(run) else None
+
+
 class Reading(unittest.TestCase):
     def test_claims(self):
         for words, found in (
@@ -59,33 +68,22 @@ class Remarks(unittest.TestCase):
 
     def test_columns(self):
         named = 0
-        for lesson in LESSONS:
-            text = lesson.read_text("utf-8")
-            run = lines_run(text)
-            for number, words in remarks(text):
-                for column, is_lit in claims(words):
-                    byte = run[number][column]
-                    true = bool(lit(byte)) if is_lit else bool(byte & UNSHOWN)
-                    self.assertTrue(true, f"{lesson.name}, line {number}, column {column}: {words}")
-                    named += 1
+        for where, words, line in each_line():
+            for column, is_lit in claims(words):
+                true = bool(lit(line[column])) if is_lit else bool(line[column] & UNSHOWN)
+                self.assertTrue(true, f"column {column} of {where}")
+                named += 1
         self.assertGreater(named, 100)
 
     def test_dark(self):
-        dark = 0
-        for lesson in LESSONS:
-            text = lesson.read_text("utf-8")
-            run = lines_run(text)
-            for number, words in remarks(text):
-                if words.startswith("dark"):
-                    self.assertFalse(any(map(lit, run[number])), f"{lesson.name}, line {number}")
-                    dark += 1
-        self.assertGreater(dark, 4)
+        dark = [(where, line) for where, words, line in each_line() if words.startswith("dark")]
+        for where, line in dark:
+            self.assertFalse(any(map(lit, line)), where)
+        self.assertGreater(len(dark), 4)
 
     def test_not_run(self):
-        for lesson in LESSONS:
-            text = lesson.read_text("utf-8")
-            not_run = [number for number, words in remarks(text) if NOT_RUN.match(words)]
-            self.assertEqual(not_run, list(range(len(lines_run(text)), len(remarks(text)))), lesson.name)
+        for where, words, line in each_line():
+            self.assertEqual(line is None, bool(NOT_RUN.match(words)), where)
 
 
 if __name__ == "__main__":

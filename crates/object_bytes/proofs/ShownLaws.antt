@@ -2,7 +2,6 @@
 use mathlib.Core.Path.{_≡_, _∙_, refl, sym}
 use mathlib.Core.List.{List, [], _∷_, _++_, append-assoc}
 use Prim.Native.Nat.{ℕ, suc, _+_, _-_, _≤_, _<_}
-use native.Mathlib.Numerals.{add-one}
 use native.Mathlib.Omega.{arith}
 use lib.ListN.{length}
 use Rattle.tia.specs.declared.state.State.{State}
@@ -33,6 +32,7 @@ shown-none tape buffer short =
     let same = rw enough at (replay-limit tape (65536 - length tape)) in
     record { room = buffer; shown = []; rest = rw same refl; last = refl }
 
+-- The last of some lines and one more is that one.
 last-of-more : (room : List ℕ) (ls : List PlayedLine) (l : PlayedLine) → lastBytes room (ls ++ (l ∷ [])) ≡ l .bytes
 last-of-more room [] l = refl
 last-of-more room (k ∷ ks) l = last-of-more (k .bytes) ks l
