@@ -8,7 +8,7 @@ from pathlib import Path
 sys.dont_write_bytecode = True
 
 from mutants import applied, bodies, constants, of_files
-from prover_log import Verdict, judged
+from prover_log import judged
 
 PROJECT = Path(__file__).resolve().parent.parent
 SOURCE = """use crate::other::LIMIT;
@@ -85,21 +85,23 @@ class Mutants(unittest.TestCase):
 
 class Logs(unittest.TestCase):
     def test_verdicts(self):
-        consequence = "/x/proofs/a/g/Proof.antt:1:2: error: `g-spec`: `close` was not admitted\n"
-        broken = "/x/proofs/a/f/Proof.antt:3:4: error: `returns`: `omega`: the goal does not follow\n"
-        shape = "/x/proofs/a/f/Proof.antt:3:4: error: module `Tie` has no `Need-add` that can be named from here\n"
-        alone = "fn tia::a::f: no proof: expected `f-spec`; `search` does not close `returns`, `add`\n"
-        compiler = "/x/src/a.rt:1:2: error[mismatched-types]: expected `u8`\n"
-        for code, log, verdict in (
-            (0, "logic=proved", Verdict("survived", "")),
-            (1, compiler, Verdict("no program", "")),
-            (1, consequence + broken, Verdict("refused", "a/f returns")),
-            (1, consequence + shape, Verdict("shape", "a/f")),
-            (1, consequence + alone, Verdict("refused", "tia::a::f returns")),
-            (1, "", Verdict("unknown", "exit status 1")),
-            (2, "rt: no room", Verdict("unknown", "exit status 2")),
+        crate = "/x/crates/tia"
+        consequence = f"{crate}/proofs/a/g/Proof.antt:1:2: error: `g-spec`: `close` was not admitted\n"
+        broken = f"{crate}/proofs/a/f/Proof.antt:3:4: error: `returns`: `omega`: the goal does not follow\n"
+        shape = f"{crate}/proofs/a/f/Proof.antt:3:4: error: module `Tie` has no `Need-add` that can be named from here\n"
+        alone = f"fn tia::a::f: no proof: expected `f-spec` in {crate}/proofs/a/f/Proof.antt; `search` does not close `add`\n"
+        compiler = f"{crate}/src/a.rt:1:2: error[mismatched-types]: expected `u8`\n"
+        proof = "proofs/a/f/Proof.antt"
+        for code, log, said in (
+            (0, "logic=proved", "passed"),
+            (1, compiler, "no program: src/a.rt:1: [mismatched-types] expected `u8`"),
+            (1, consequence + broken, f"refused: {proof}:3: `returns`: `omega`: the goal does not follow"),
+            (1, consequence + shape, f"hollow: {proof}:3: module `Tie` has no `Need-add` that can be named from here"),
+            (1, consequence + alone, f"refused: {proof}: fn tia::a::f: no proof: `search` does not close `add`"),
+            (1, "", "unknown: exit status 1"),
+            (2, "rt: no room", "unknown: exit status 2: rt: no room"),
         ):
-            self.assertEqual(judged(code, log), verdict)
+            self.assertEqual(judged(code, log).said(), said)
 
 
 if __name__ == "__main__":
