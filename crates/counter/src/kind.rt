@@ -27,8 +27,8 @@ impl Horizontal {
     pub fn new() -> Self
         ensures { λ r. do ⌜ PowerUp horizontal (← ⟦Horizontal::PERIOD⟧ .entry) (← ⟦Horizontal::WRAP⟧ .entry) (← ⟦Horizontal::POWER_UP⟧ .entry) (r .value) ⌝ }
     {
-        Self {
-            value: Self::POWER_UP,
+        Horizontal {
+            value: Horizontal::POWER_UP,
         }
     }
 
@@ -68,8 +68,8 @@ impl Position {
     pub fn new() -> Self
         ensures { λ r. do ⌜ PowerUp position (← ⟦Position::PERIOD⟧ .entry) (← ⟦Position::WRAP⟧ .entry) (← ⟦Position::POWER_UP⟧ .entry) (r .value) ⌝ }
     {
-        Self {
-            value: Self::POWER_UP,
+        Position {
+            value: Position::POWER_UP,
         }
     }
 
@@ -78,7 +78,7 @@ impl Position {
         ensures { λ r. ⌜ positionAnswer r ≡ stepAnswer position (self .value) ⌝ }
     {
         let value = self.value;
-        if value > ONES {
+        if ONES < value {
             return PositionStep::Refused;
         }
         PositionStep::To(Position {

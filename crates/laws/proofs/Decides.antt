@@ -2,10 +2,11 @@
 use mathlib.Core.Path.{_≡_, _∙_, refl, sym}
 use mathlib.Core.Logic.{_⊎_, inl, inr, ⊎-elim}
 use mathlib.Core.Bool.{Bool, true, false, true≢false, _&&_, _||_, not}
-use Prim.Native.Nat.{ℕ, _<_, _≤_}
+use Prim.Native.Nat.{ℕ, _%_, _<_, _≤_}
 use native.Mathlib.Omega.{arith}
 use borrow.Author.Tests.{ltb-true, ltb-false, leb-true, leb-false, eqb-true, eqb-false}
 use lib.Dec.{ltb, leb, eqb}
+use Rattle.laws.specs.Numbers.{badLength, BadLength}
 
 -- What a test shows of a statement that it decides.
 pub record Decides (test : Bool) (P : Type 0) : Type 0 where
@@ -37,6 +38,10 @@ either false b p q = record { holds = λ e. inr (q .holds e); fails = λ e. ⊎-
 pub both : {P Q : Type 0} (a b : Bool) → Decides a P → Decides b Q → Decides (a && b) (P × Q)
 both true b p q = record { holds = λ e. (p .holds refl, q .holds e); fails = λ e h. q .fails e (h .1) }
 both false b p q = record { holds = λ e. absurd (true≢false (sym e)); fails = λ e h. p .fails refl (h .0) }
+
+-- Row 4's test decides row 4.
+pub length-decided : (n : ℕ) → Decides (badLength n) (BadLength n)
+length-decided n = either (not (eqb (n % 3) 0)) (ltb 684 n) (differs (n % 3) 0) (less 684 n)
 
 -- A test decides that it passes; its negation, that it fails.
 pub passes : (test : Bool) → Decides test (test ≡ true)

@@ -1,5 +1,7 @@
--- The refusal numbers, in document 01's order; and row 4's test, which a line call and a tape share.
-use Prim.Native.Nat.{ℕ, _%_}
+-- The refusal numbers, in document 01's order; and row 4 with its test, which a line call and a tape share.
+use Prim.Native.Nat.{ℕ, _%_, _<_}
+use mathlib.Core.Path.{_≡_}
+use mathlib.Core.Logic.{_⊎_}
 use mathlib.Core.Bool.{Bool, _||_, not}
 use lib.Dec.{eqb, ltb}
 
@@ -21,6 +23,9 @@ forListLength = 4
 
 abbrev pub badLength : ℕ → Bool
 badLength n = not (eqb (n % 3) 0) || ltb 684 n
+
+abbrev pub BadLength : ℕ → Type 0
+BadLength n = (n % 3 ≡ 0 → ⊥) ⊎ (684 < n)
 
 -- 5: a clock over 227.
 abbrev pub forClockOver : ℕ

@@ -2,21 +2,22 @@
 use mathlib.Core.Path.{_≡_, _∙_, refl, sym, ap}
 use mathlib.Core.Bool.{Bool, true, false, cond}
 use mathlib.Core.List.{List, [], _++_, append-assoc, append-nil}
-use Prim.Native.Nat.{ℕ, zero, suc, _+_, _-_}
+use Prim.Native.Nat.{ℕ, zero, suc, _+_}
 use native.Mathlib.Nat.{add-zero, zero-add}
 use native.Mathlib.Omega.{arith}
 use borrow.Author.Tests.{ltb-false}
 use lib.Dec.{ltb}
 use lib.ListN.{length}
+use Rattle.tape.specs.Reading.{longest}
 use Rattle.tia.specs.declared.state.State.{State}
 use Rattle.tia.specs.State.{startState}
 use Rattle.replay.specs.declared.play.Verdict.{Verdict}
 use Rattle.replay.specs.declared.play.Verdict.the-variants.{Played, Ended, Refused}
 use Rattle.replay.specs.Replay.{PlayedLine, Replay, stateAfterLines, lineFrom, replayFrom, replayOf}
-use Rattle.replay.proofs.ReplayLaws.{Stopped, unplayed-state, over-replay, replay-limit}
+use Rattle.replay.proofs.ReplayLaws.{Stopped, unplayed-state, over-replay, enough, replay-enough}
 use Rattle.listing_text.specs.declared.listing.Next.the-variants.{Line, Done}
 use Rattle.listing_text.specs.LineText.{heading, tooLong, rowText}
-use Rattle.listing_text.specs.Listing.{longest, rowsText, lastText, listingOf, openingText, openingNext, lineText, lineNext, stepsText}
+use Rattle.listing_text.specs.Listing.{rowsText, lastText, listingOf, openingText, openingNext, lineText, lineNext, stepsText}
 
 -- Nothing is printed when the listing is done.
 done : (steps line : ℕ) (s : State) (tape : List ℕ) → stepsText steps line s tape Done ≡ []
@@ -61,9 +62,9 @@ steps-are-rows tape =
     let same = unplayed-state s tape at 160 (rw e stopped) in
     rw e (last-step line steps s tape at v stopped same))
 
--- A program that takes the first step and then at most 65,537 more, each from where the one before left off, prints the listing.
+-- A program that takes the first step and then enough more, each from where the one before left off, prints the listing.
 pub steps-are-listing :
-    (tape : List ℕ) → openingText tape ++ stepsText 65537 0 startState tape (openingNext tape) ≡ listingOf tape
+    (tape : List ℕ) → openingText tape ++ stepsText enough 0 startState tape (openingNext tape) ≡ listingOf tape
 unfolding listingOf
 steps-are-listing tape = by-length (ltb longest (length tape)) refl
   where
@@ -75,13 +76,12 @@ steps-are-listing tape = by-length (ltb longest (length tape)) refl
 
     by-length :
         (long : Bool) → ltb longest (length tape) ≡ long →
-        cond long tooLong heading ++ stepsText 65537 0 startState tape (cond long Done (Line 1))
+        cond long tooLong heading ++ stepsText enough 0 startState tape (cond long Done (Line 1))
         ≡ cond long tooLong (heading ++ (rowsText 0 lines ++ last))
-    by-length true e = rw (done 65537 0 startState tape) (append-nil tooLong)
+    by-length true e = rw (done enough 0 startState tape) (append-nil tooLong)
     by-length false e =
-        let enough : suc (length tape) + (65536 - length tape) ≡ 65537 = omega (arith, ltb-false longest (length tape) e) in
-        let same = rw enough at (replay-limit tape (65536 - length tape)) in
+        let same = replay-enough tape (ltb-false longest (length tape) e) in
         ap (λ (rest : List ℕ). heading ++ rest)
-        (steps-are-rows tape 65537 startState 1 0
+        (steps-are-rows tape enough startState 1 0
         ∙ ap (replayText 0 startState) same
         ∙ ap (λ (n : ℕ). rowsText 0 lines ++ lastText n (stateAfterLines startState lines) (replayOf tape .verdict)) (zero-add (length lines)))

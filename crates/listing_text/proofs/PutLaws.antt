@@ -6,8 +6,8 @@ use native.Mathlib.Nat.{add-zero, add-suc, suc-add}
 use native.Mathlib.Numerals.{add-one, sub-one}
 use native.Mathlib.Omega.{arith}
 use borrow.Author.Tests.{lt-ltb, le-ltb}
-use lib.ListN.{length, getD, take, length-append}
-use lib.Seq.{sets, take-suc, take-all, length-take-le}
+use lib.ListN.{length, getD, take, drop, replicate, length-append}
+use lib.Seq.{sets, sets-eq, take-suc, take-all, take-append-seam, length-take-le}
 use Rattle.listing_text.specs.Room.{Put}
 use Rattle.listing_text.specs.Text.{ascii, digitsOf, spaced}
 
@@ -17,6 +17,12 @@ sets-append [] ys room at = rw add-zero
 sets-append (x ∷ xs) ys room at =
     ap (λ (n : ℕ). sets (sets room at (x ∷ xs)) n ys) (add-suc at (length xs) ∙ sym (suc-add at (length xs)))
     ∙ sets-append xs ys _ (suc at)
+
+-- Text stored at the start of a room that it fits is the room's first bytes.
+pub take-sets : (text : List ℕ) → length text ≤ 64 → take (length text) (sets (replicate 64 0) 0 text) ≡ text
+take-sets text fits =
+    ap (take (length text)) (sets-eq text (replicate 64 0) 0 (omega arith))
+    ∙ take-append-seam text (drop (0 + length text) (replicate 64 0))
 
 -- No text, and text after text.
 pub put-none : (room : List ℕ) (at : ℕ) → Put [] at room at room

@@ -4,9 +4,9 @@ use mathlib.Core.Path.{_≡_}
 use mathlib.Core.Bool.{cond}
 use mathlib.Core.List.{List, [], _∷_, _++_}
 use lib.Dec.{ltb}
-use lib.ListN.{length}
+use lib.ListN.{length, replicate, take}
 use lib.Seq.{sets}
-use Rattle.tape.specs.Reading.{version1}
+use Rattle.tape.specs.Reading.{longest, version1}
 use Rattle.tia.specs.declared.state.State.{State}
 use Rattle.tia.specs.State.{startState}
 use Rattle.tia.specs.Object.{columns}
@@ -18,10 +18,6 @@ use Rattle.listing_text.specs.declared.listing.Next.{Next}
 use Rattle.listing_text.specs.declared.listing.Next.the-variants.{Line, Done}
 use Rattle.listing_text.specs.declared.listing.Printed.{Printed}
 use Rattle.listing_text.specs.LineText.{heading, tooLong, rowText, latchesText, refusedText}
-
--- The longest tape that is listed.
-abbrev pub longest : ℕ
-longest = 65536
 
 -- The rows of lines, numbered from one on.
 unfoldable pub rowsText : (line : ℕ) → List PlayedLine → List ℕ
@@ -44,16 +40,38 @@ listingOf tape =
     cond (ltb longest (length tape)) tooLong
     (heading ++ (rowsText 0 lines ++ lastText (length lines) (stateAfterLines startState lines) (replay .verdict)))
 
--- One step of the listing: a printed text, with which line of the tape comes next, and the state before it.
+-- One step of the listing: what comes next, the state before it, and the printed text, in a room of 64 bytes from index 0 on and
+-- zeros after it, with its length.
 abbrev pub printed : (text : List ℕ) → Next → State → Printed
-printed text next s = record { next = next; state = s; length = length text }
+printed text next s = record { next = next; state = s; room = sets (replicate 64 0) 0 text; length = length text }
 
--- What a step promises: its answer, and the room of 64 bytes after it: the text's bytes from index 0 on, all others as they were;
--- and that the text fits.
-pub record Prints (text : List ℕ) (next : Next) (s : State) (room : List ℕ) (answer : Printed) (after : List ℕ) : Type 0 where
-  pub answer-is : answer ≡ printed text next s
-  pub after-is : after ≡ sets room 0 text
-  pub fits : answer .length ≤ 64
+-- The paper's numbers for what comes next: the case (0 a line, 1 nothing) and the line's place, 0 where there is none; then those of
+-- the step. Different steps have different numbers (`same-step`).
+pub record NextNumbers : Type 0 where
+  pub case : ℕ
+  pub place : ℕ
+
+abbrev pub nextNumbers : Next → NextNumbers
+nextNumbers (Line place) = record { case = 0; place = place }
+nextNumbers Done = record { case = 1; place = 0 }
+
+pub record StepNumbers : Type 0 where
+  pub next : NextNumbers
+  pub state : State
+  pub room : List ℕ
+  pub length : ℕ
+
+abbrev pub stepNumbers : Printed → StepNumbers
+stepNumbers p = record { next = nextNumbers (p .next); state = p .state; room = p .room; length = p .length }
+
+-- What a step promises: its answer, and that the text fits the room.
+pub record Prints (text : List ℕ) (next : Next) (s : State) (answer : Printed) : Type 0 where
+  pub answer-is : stepNumbers answer ≡ stepNumbers (printed text next s)
+  pub fits : length text ≤ 64
+
+-- The bytes that a step prints: the first so many of its room.
+abbrev pub printedBytes : Printed → List ℕ
+printedBytes p = take (p .length) (p .room)
 
 -- The first step: the heading, and the first line from the start state; or that the tape is too long, and nothing more.
 abbrev pub openingText : (tape : List ℕ) → List ℕ
@@ -78,6 +96,11 @@ stepText s tape place line = lineText line (lineFrom s tape place) (playAnswer s
 
 abbrev pub stepNext : State → (tape : List ℕ) (place : ℕ) → Next
 stepNext s tape place = lineNext (playAnswer s tape place columns .verdict)
+
+-- What a later step promises.
+abbrev pub StepPrints : State → (tape : List ℕ) (place line : ℕ) → Printed → Type 0
+StepPrints s tape place line answer =
+    Prints (stepText s tape place line) (stepNext s tape place) (lineFrom s tape place .state) answer
 
 -- What is printed by steps from a place on, at most so many: each from where the one before left off.
 unfoldable pub stepsText : (steps line : ℕ) → State → (tape : List ℕ) → Next → List ℕ

@@ -4,14 +4,15 @@ use mathlib.Core.List.{List, [], _∷_, _++_, append-assoc}
 use Prim.Native.Nat.{ℕ, suc, _+_, _-_, _≤_, _<_}
 use native.Mathlib.Omega.{arith}
 use lib.ListN.{length}
+use Rattle.tape.specs.Reading.{longest}
 use Rattle.tia.specs.declared.state.State.{State}
 use Rattle.tia.specs.State.{startState}
 use Rattle.replay.specs.declared.play.PlayAnswer.{PlayAnswer}
 use Rattle.replay.specs.declared.play.Verdict.the-variants.{Played}
 use Rattle.replay.specs.Play.{playAnswer, PlayPromise}
 use Rattle.replay.specs.Replay.{PlayedLine, lineFrom, replayFrom, replayOf}
-use Rattle.replay.proofs.PlayLaws.{played-bytes}
-use Rattle.replay.proofs.ReplayLaws.{replay-limit}
+use Rattle.replay.proofs.PlayLaws.{play-answered, played-bytes}
+use Rattle.replay.proofs.ReplayLaws.{enough, replay-enough}
 
 -- The bytes of the last of some lines; those of a room that holds none yet.
 abbrev pub lastBytes : (room : List ℕ) → List PlayedLine → List ℕ
@@ -26,11 +27,8 @@ pub record Shown (tape : List ℕ) (steps : ℕ) (s : State) (place : ℕ) (buff
   pub last : buffer ≡ lastBytes room shown
 
 -- Before the first.
-pub shown-none : (tape buffer : List ℕ) → length tape ≤ 65536 → Shown tape 65537 startState 1 buffer
-shown-none tape buffer short =
-    let enough : suc (length tape) + (65536 - length tape) ≡ 65537 = omega (arith, short) in
-    let same = rw enough at (replay-limit tape (65536 - length tape)) in
-    record { room = buffer; shown = []; rest = rw same refl; last = refl }
+pub shown-none : (tape buffer : List ℕ) → length tape ≤ longest → Shown tape enough startState 1 buffer
+shown-none tape buffer short = record { room = buffer; shown = []; rest = rw (replay-enough tape short) refl; last = refl }
 
 -- The last of some lines and one more is that one.
 last-of-more : (room : List ℕ) (ls : List PlayedLine) (l : PlayedLine) → lastBytes room (ls ++ (l ∷ [])) ≡ l .bytes
@@ -45,27 +43,34 @@ line-first :
 unfolding replayFrom
 line-first tape steps s place next said = rw said
 
+-- A line that is played is in the buffer.
+pub played-line :
+    (tape : List ℕ) (s : State) (place : ℕ) (buffer after : List ℕ) (answer : PlayAnswer) (next : ℕ) →
+    PlayPromise s tape place buffer answer after → answer .verdict ≡ Played next → after ≡ lineFrom s tape place .bytes
+played-line tape s place buffer after answer next promise played =
+    promise .1
+    ∙ played-bytes s tape place buffer next (rw (play-answered s tape place buffer answer after promise) at played)
+
 -- After a line that is played.
 pub shown-more :
     (tape : List ℕ) (s : State) (place step : ℕ) (buffer after : List ℕ) (answer : PlayAnswer) (next : ℕ) →
-    step < 65537 → length buffer ≡ 160 → Shown tape (65537 - step) s place buffer →
+    step < enough → length buffer ≡ 160 → Shown tape (enough - step) s place buffer →
     PlayPromise s tape place buffer answer after → answer .verdict ≡ Played next →
-    Shown tape (65537 - (step + 1)) (answer .state) next after
+    Shown tape (enough - (step + 1)) (answer .state) next after
 shown-more tape s place step buffer after answer next more room follows promise played =
     let line = lineFrom s tape place in
-    let one : 65537 - step ≡ suc (65537 - (step + 1)) = omega arith in
-    let answered : answer ≡ playAnswer s tape place 160 = rw room at (promise .0) in
+    let one : enough - step ≡ suc (enough - (step + 1)) = omega arith in
+    let answered : answer ≡ playAnswer s tape place 160 = rw room at (play-answered s tape place buffer answer after promise) in
     let said : playAnswer s tape place 160 .verdict ≡ Played next = rw answered at played in
-    let later = replayFrom (65537 - (step + 1)) (line .state) tape next .lines in
+    let later = replayFrom (enough - (step + 1)) (line .state) tape next .lines in
     record {
       room = follows .room;
       shown = follows .shown ++ (line ∷ []);
       rest =
           rw answered
-          (rw (one, line-first tape (65537 - (step + 1)) s place next said) at (follows .rest)
+          (rw (one, line-first tape (enough - (step + 1)) s place next said) at (follows .rest)
           ∙ sym (append-assoc (follows .shown) (line ∷ []) later));
       last =
-          promise .1
-          ∙ played-bytes s tape place buffer next (rw room said)
+          played-line tape s place buffer after answer next promise played
           ∙ sym (last-of-more (follows .room) (follows .shown) line);
     }

@@ -1,25 +1,33 @@
 // Reads a tape from standard input and writes the object bytes of its lines: 160 bytes a line, as the line call fills them.
+ghost use mathlib.Core.Path.{_≡_};
 ghost use Prim.Native.Nat.{_≤_};
 ghost use lib.ListN.{length};
+ghost use Rattle.tape.specs.Reading.{longest};
+ghost use Rattle.replay.specs.Replay.{lineFrom};
 use libc::STDIN_FILENO;
 use libc::STDOUT_FILENO;
 use replay::Verdict;
+use tia::State;
 
-// The longest tape that is shown.
-const LONGEST: usize = 65536;
+// Room for the longest tape and one byte more.
+const ROOM: usize = tape::LONGEST_TAPE + 1;
 
-// Room for such a tape and one byte more.
-const ROOM: usize = 65537;
+// More steps than the longest tape has lines.
+const STEPS: u32 = (tape::LONGEST_TAPE + 1) as u32;
 
-// More steps than such a tape has lines.
-const STEPS: u32 = 65537;
+// Writes bytes, which are those of the tape's line at a place, played from a state.
+fn emit(bytes: &[u8], state: State, tape: &[u8], place: usize)
+    requires { ⌜ now bytes ≡ lineFrom state (now tape) place .bytes ⌝ }
+{
+    io::write_all(STDOUT_FILENO, bytes);
+}
 
 // Plays the lines of a tape from the start state and writes the bytes of each, up to the tape's end or a line that is refused.
 fn show_lines(tape: &[u8])
-    requires { ⌜ length (now tape) ≤ 65536 ⌝ }
+    requires { ⌜ length (now tape) ≤ longest ⌝ }
 {
     let mut bytes = [0u8; 160];
-    let mut state = tia::State::start();
+    let mut state = State::start();
     let mut place = tape::FIRST_PLACE;
     for step in 0..STEPS {
         let played = replay::play_line(state, tape, place, &mut bytes);
@@ -27,7 +35,7 @@ fn show_lines(tape: &[u8])
         let Verdict::Played(next) = verdict else {
             return;
         };
-        io::write_all(STDOUT_FILENO, &bytes);
+        emit(&bytes, state, tape, place);
         state = played.state;
         place = next;
     }
@@ -37,7 +45,7 @@ fn show_lines(tape: &[u8])
 fn main() {
     let mut room = [0u8; ROOM];
     let count = io::read_full(STDIN_FILENO, &mut room);
-    if count <= LONGEST {
+    if count <= tape::LONGEST_TAPE {
         show_lines(&room[..count]);
     }
 }

@@ -1,18 +1,23 @@
 -- The lines of a replay follow one another: each is an accepted line call from the state that the one before handed back.
 use mathlib.Core.Path.{_≡_, refl}
-use mathlib.Core.Bool.{true}
+use mathlib.Core.Bool.{true, false, not}
 use mathlib.Core.List.{List, [], _∷_, _++_}
-use Prim.Native.Nat.{ℕ, zero, suc, _-_}
-use lib.ListN.{take, drop}
-use Rattle.laws.proofs.Bools.{and-both, and-first, and-second}
+use Prim.Native.Nat.{ℕ, zero, suc, _-_, _%_, _^_, _≤_, _<_}
+use native.Mathlib.Omega.{arith}
+use borrow.Author.Tests.{lt-ltb, ltb-false}
+use lib.Dec.{eqb, ltb}
+use lib.ListN.{length, take, drop}
+use Rattle.laws.specs.Numbers.{badLength}
+use Rattle.laws.proofs.Bools.{and-both, and-first, and-second, or-second}
 use Rattle.tape.specs.declared.reading.Place.{Place}
 use Rattle.tape.specs.declared.reading.Place.the-variants as place
 use Rattle.tape.specs.Reading.{readAt, stretchOf, stretchAt}
+use Rattle.tape.proofs.ReadingLaws.{line-there, stretch-length}
 use Rattle.tia.specs.declared.state.State.{State}
 use Rattle.tia.specs.State.{isByte}
 use Rattle.tia.specs.Line.{lineOf, picture}
 use Rattle.tia.specs.Answers.{lineAnswer}
-use Rattle.tia.specs.Run.{allBytes}
+use Rattle.tia.specs.Run.{allBytes, isSlice}
 use Rattle.replay.specs.Replay.{PlayedLine, stateAfterLines, replayFrom}
 use Rattle.replay.proofs.PlayLaws.{played-here}
 use Rattle.replay.proofs.ReplayLaws.{over-replay}
@@ -38,9 +43,22 @@ stretch-bytes tape at all = by-reading (readAt tape at)
     by-reading place.Ended = refl
     by-reading (place.Refused n) = refl
 
+-- The stretch of a line that is read is a slice: 684 bytes at most.
+stretch-slice :
+    (tape : List ℕ) (at start end : ℕ) → allBytes tape ≡ true → readAt tape at ≡ place.Line start end →
+    isSlice (stretchAt tape at) ≡ true
+stretch-slice tape at start end all line =
+    let n = length (stretchAt tape at) in
+    let good : badLength n ≡ false = rw (stretch-length tape at start end line) (line-there tape at start end line .listed) in
+    let short = ltb-false 684 n (or-second (not (eqb (n % 3) 0)) (ltb 684 n) good) in
+    and-both (stretch-bytes tape at all) (lt-ltb n (2 ^ 63) (below short))
+  where
+    below : {n : ℕ} → n ≤ 684 → n < 2 ^ 63
+    below h = omega arith
+
 -- A line as an accepted line call from a state.
 pub record Follows (s : State) (l : PlayedLine) : Type 0 where
-  pub of-bytes : allBytes (l .writes) ≡ true
+  pub slice : isSlice (l .writes) ≡ true
   pub number : lineAnswer s (l .writes) 160 .number ≡ 0
   pub state : l .state ≡ lineAnswer s (l .writes) 160 .state
   pub bytes : l .bytes ≡ picture (lineOf s (l .writes))
@@ -58,7 +76,8 @@ replay-chained tape all =
     (λ s at. tt)
     (λ limit s at next later e chained.
     let here = played-here s tape at 160 next e in
-    (record { of-bytes = stretch-bytes tape at all; number = here .number; state = here .state; bytes = refl }, chained))
+    let slice = stretch-slice tape at (here .start) next all (here .line) in
+    (record { slice = slice; number = here .number; state = here .state; bytes = refl }, chained))
     (λ limit s at v e stopped. tt)
 
 -- Lines that follow one another, in two parts.

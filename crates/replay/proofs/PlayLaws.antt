@@ -1,15 +1,15 @@
 -- Playing a line by cases: what it answers, by what stands at the place.
 use mathlib.Core.Path.{_≡_, refl}
 use mathlib.Core.List.{List}
-use mathlib.Core.Bool.{Bool, true, false, cond, not}
-use mathlib.Core.Logic.{⊎-elim}
-use Prim.Native.Nat.{ℕ, _%_, _<_}
+use mathlib.Core.Bool.{Bool, true, false, cond}
+use Prim.Native.Nat.{ℕ}
 use native.Mathlib.Omega.{arith}
-use borrow.Author.Tests.{eq-eqb, eqb-true, ltb-false}
-use lib.Dec.{eqb, ltb}
+use borrow.Author.Tests.{eq-eqb, eqb-true}
+use lib.Dec.{eqb}
 use lib.ListN.{length}
 use Rattle.laws.specs.Numbers.{badLength, forListLength}
-use Rattle.laws.proofs.Bools.{or-first, or-second, not-false}
+use Rattle.laws.proofs.OneToOne.{one-to-one}
+use Rattle.laws.proofs.Decides.{length-decided}
 use Rattle.tape.specs.declared.reading.Place.{Place}
 use Rattle.tape.specs.declared.reading.Place.the-variants.{Line, Ended, Refused}
 use Rattle.tape.specs.Reading.{readAt, stretchAt}
@@ -19,10 +19,40 @@ use Rattle.tia.specs.declared.state.State.{State}
 use Rattle.tia.specs.Line.{lineOf, picture}
 use Rattle.tia.specs.Answers.{lineFault, lineAnswer, lineBuffer, LinePromise}
 use Rattle.tia.proofs.RefusalLaws.{line-refused-exactly}
+use Rattle.replay.specs.declared.play.PlayAnswer.{PlayAnswer}
 use Rattle.replay.specs.declared.play.Verdict.{Verdict}
 use Rattle.replay.specs.declared.play.Verdict.the-variants as verdict
 use Rattle.replay.specs.Play.{lineVerdict, playAnswer, playBuffer, PlayPromise}
+use Rattle.replay.specs.Play.{VerdictNumbers, verdictNumbers, PlayNumbers, playNumbers}
 
+-- Equal numbers mean equal answers.
+verdict-back : VerdictNumbers → Verdict
+verdict-back n =
+    cond (eqb (n .case) 0) (verdict.Played (n .place)) (cond (eqb (n .case) 1) verdict.Ended (verdict.Refused (n .number) (n .index)))
+
+verdict-inverse : (v : Verdict) → verdict-back (verdictNumbers v) ≡ v
+unfolding verdict-back
+verdict-inverse (verdict.Played next) = refl
+verdict-inverse verdict.Ended = refl
+verdict-inverse (verdict.Refused n i) = refl
+
+play-back : PlayNumbers → PlayAnswer
+play-back n = record { verdict = verdict-back (n .verdict); state = n .state }
+
+play-inverse : (a : PlayAnswer) → play-back (playNumbers a) ≡ a
+unfolding play-back
+play-inverse a = λ i. record { verdict = verdict-inverse (a .verdict) i; state = a .state }
+
+pub same-play : {a b : PlayAnswer} → playNumbers a ≡ playNumbers b → a ≡ b
+same-play e = one-to-one playNumbers play-back play-inverse e
+
+-- What playing a line answers, by its promise.
+pub play-answered :
+    (s : State) (tape : List ℕ) (place : ℕ) (buffer : List ℕ) (answer : PlayAnswer) (after : List ℕ) →
+    PlayPromise s tape place buffer answer after → answer ≡ playAnswer s tape place (length buffer)
+play-answered s tape place buffer answer after promise = same-play (promise .0)
+
+-- The promise by cases of the reading.
 module _ (s : State) (tape : List ℕ) (place : ℕ) (buffer : List ℕ) (found : Place) (read : found ≡ readAt tape place) where
   pub play-line :
       (start end : ℕ) → found ≡ Line start end → (ws : List ℕ) → ws ≡ stretchAt tape place → (answer : LineAnswer) (after : List ℕ) →
@@ -93,9 +123,4 @@ pub list-length-read :
 list-length-read s tape place room start end line four =
     let n = length (stretchAt tape place) in
     let good : badLength n ≡ false = rw (stretch-length tape place start end line) (line-there tape place start end line .listed) in
-    let whole = not-false (eqb (n % 3) 0) (or-first (not (eqb (n % 3) 0)) (ltb 684 n) good) in
-    let short = or-second (not (eqb (n % 3) 0)) (ltb 684 n) good in
-    ⊎-elim
-    (λ (uneven : n % 3 ≡ 0 → ⊥). uneven (eqb-true (n % 3) 0 whole))
-    (λ (long : 684 < n). omega (arith, ltb-false 684 n short))
-    (line-refused-exactly s (stretchAt tape place) room .1 .1 .1 .0 .0 four .1)
+    length-decided n .fails good (line-refused-exactly s (stretchAt tape place) room .1 .1 .1 .0 .0 four .1)

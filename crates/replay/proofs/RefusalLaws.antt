@@ -20,7 +20,7 @@ use Rattle.tia.specs.declared.state.State.{State}
 use Rattle.tia.specs.Answers.{lineAnswer}
 use Rattle.tia.proofs.RefusalLaws.{lineChecks, line-number}
 use Rattle.replay.specs.declared.play.Verdict.the-variants as verdict
-use Rattle.replay.specs.Play.{lineVerdict, playedAt, playAnswer, verdictAnswer}
+use Rattle.replay.specs.Play.{lineVerdict, playedAt, playAnswer, verdictNumbers}
 use Rattle.replay.specs.PlayRows.{playRows}
 
 -- The checks of the line call but for the fourth, behind the test that the tape has not ended.
@@ -56,10 +56,10 @@ after-three false false true later = refl
 after-three false false false later = refl
 
 -- The number of a verdict on a line is the line call's.
-verdict-number : (number index end : ℕ) → verdictAnswer (lineVerdict number index end) .number ≡ number
+verdict-number : (number index end : ℕ) → verdictNumbers (lineVerdict number index end) .number ≡ number
 verdict-number number index end = by-test (eqb number 0) refl
   where
-    by-test : (b : Bool) → eqb number 0 ≡ b → verdictAnswer (cond b (verdict.Played end) (verdict.Refused number index)) .number ≡ number
+    by-test : (b : Bool) → eqb number 0 ≡ b → verdictNumbers (cond b (verdict.Played end) (verdict.Refused number index)) .number ≡ number
     by-test true e = sym (eqb-true number 0 e)
     by-test false e = refl
 
@@ -73,7 +73,7 @@ module _ (s : State) (tape : List ℕ) (place room : ℕ) where
   -- By what stands at the place: the reading's number, or the line's.
   by-reading :
       (found : Place) → readAt tape place ≡ found →
-      verdictAnswer (playedAt s (stretchAt tape place) room found .verdict) .number
+      verdictNumbers (playedAt s (stretchAt tape place) room found .verdict) .number
       ≡ cond (eqb (placeAnswer found .number) 0) (firstOf playedChecks) (placeAnswer found .number)
   by-reading (Line start end) e =
       let ws = stretchAt tape place in
@@ -86,11 +86,11 @@ module _ (s : State) (tape : List ℕ) (place room : ℕ) where
   by-reading Ended e = rw (eq-eqb place (length tape) (rw e at (read-answered tape place)))
   by-reading (Refused n) e = rw (ne-eqb n 0 (rw e at (read-answered tape place)))
 
-  play-number : verdictAnswer (playAnswer s tape place room .verdict) .number ≡ firstOf playChecks
+  play-number : verdictNumbers (playAnswer s tape place room .verdict) .number ≡ firstOf playChecks
   unfolding playAnswer
   play-number =
       by-reading (readAt tape place) refl
       ∙ rw (reading-number tape place) (sym (after-three (badVersion tape) (tapeEnd tape place) (badLine tape place) (firstOf playedChecks)))
 
-  pub play-refused-exactly : GivenInOrder (playRows s tape place room) (verdictAnswer (playAnswer s tape place room .verdict) .number)
+  pub play-refused-exactly : GivenInOrder (playRows s tape place room) (verdictNumbers (playAnswer s tape place room .verdict) .number)
   play-refused-exactly = rw play-number (in-order playChecks refl)

@@ -3,7 +3,7 @@
 use mathlib.Core.Path.{_≡_, refl}
 use mathlib.Core.Bool.{Bool, true, false, cond}
 use mathlib.Core.List.{List, [], _∷_}
-use Prim.Native.Nat.{ℕ, zero, suc, _+_, _*_, _≤_, _<_}
+use Prim.Native.Nat.{ℕ, zero, suc, _+_, _-_, _*_, _≤_, _<_}
 use native.Mathlib.Nat.{suc-add}
 use native.Mathlib.Omega.{arith}
 use borrow.Author.Tests.{eqb-false}
@@ -11,7 +11,7 @@ use lib.Dec.{eqb}
 use lib.ListN.{length}
 use Rattle.tape.specs.declared.reading.Place.{Place}
 use Rattle.tape.specs.declared.reading.Place.the-variants as place
-use Rattle.tape.specs.Reading.{readAt, stretchAt}
+use Rattle.tape.specs.Reading.{longest, readAt, stretchAt}
 use Rattle.tape.proofs.ReadingLaws.{line-there}
 use Rattle.tia.specs.declared.line_call.LineAnswer.{LineAnswer}
 use Rattle.tia.specs.declared.state.State.{State}
@@ -147,3 +147,12 @@ replay-same tape =
 pub replay-limit : (tape : List ℕ) (more : ℕ) → replayFrom (suc (length tape) + more) startState tape 1 ≡ replayOf tape
 unfolding replayOf
 replay-limit tape more = replay-same tape (suc (length tape)) startState 1 more (replay-ends tape)
+
+-- More steps than the longest tape has lines: a tape that is no longer is replayed whole.
+abbrev pub enough : ℕ
+enough = suc longest
+
+pub replay-enough : (tape : List ℕ) → length tape ≤ longest → replayFrom enough startState tape 1 ≡ replayOf tape
+replay-enough tape short =
+    let all : suc (length tape) + (longest - length tape) ≡ enough = omega arith in
+    rw all at (replay-limit tape (longest - length tape))

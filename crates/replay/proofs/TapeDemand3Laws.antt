@@ -9,66 +9,61 @@ use Rattle.tia.specs.declared.state.State.{State}
 use Rattle.tia.specs.State.{startState}
 use Rattle.tia.specs.Line.{lineOf}
 use Rattle.tia.specs.WriteList.{TimedWrite, recordsOf}
-use Rattle.tia.specs.Answers.{lineAnswer, lineBuffer}
+use Rattle.tia.specs.Answers.{lineAnswer}
 use Rattle.tia.specs.Movable.{Movable}
-use Rattle.tia.specs.Run.{allBytes, Call, LineCall, Meets, stateAfter, acceptedLists}
+use Rattle.tia.specs.Run.{allBytes, Call, definedLine, stateAfter, acceptedLists}
 use Rattle.tia.specs.Demand3.{LineStart, QuietLines}
-use Rattle.tia.proofs.StateLaws.{start-good}
+use Rattle.tia.proofs.StateLaws.{start-good, start-clock}
 use Rattle.tia.proofs.LineLaws.{line-restarts}
-use Rattle.tia.proofs.AcceptLaws.{Accepted, accepted}
-use Rattle.tia.proofs.RunLaws.{line-good}
+use Rattle.tia.proofs.AcceptLaws.{defined-meets, Accepted, accepted}
+use Rattle.tia.proofs.RunLaws.{slice-bytes, line-good}
 use Rattle.tia.proofs.Demand3Laws.{demand-3}
 use Rattle.replay.specs.Replay.{PlayedLine, stateAfterLines, replayOf}
 use Rattle.replay.specs.TapeDemand3.{recordsOfLines, TapePosition, TapePicture, TapeDemand3}
 use Rattle.replay.proofs.ChainLaws.{Follows, Chained, replay-chained, chain-first, chain-second}
 
--- The line call as its promise has it.
-abbrev promised : LineCall
-promised s c = record { answer = lineAnswer s (c .writes) (length (c .buffer)); buffer = lineBuffer s (c .writes) (c .buffer) }
-
-meets : Meets promised
-meets s c = (refl, refl)
-
 -- A played line as a line call.
 abbrev callOf : (s : State) (l : PlayedLine) → Follows s l → Call
-callOf s l f = record { writes = l .writes; buffer = replicate 160 0; bytes = f .of-bytes }
+callOf s l f = record { writes = l .writes; buffer = replicate 160 0; writes-slice = f .slice; buffer-slice = refl }
 
+-- What the call returns is the line's.
 module _ (s : State) (l : PlayedLine) (f : Follows s l) where
-  call-accepted : Accepted promised s (callOf s l f)
-  call-accepted = accepted promised meets s (callOf s l f) (f .number)
-
-  -- What the call returns is the line's.
-  call-state : promised s (callOf s l f) .answer .state ≡ l .state
+  call-state : definedLine s (callOf s l f) .answer .state ≡ l .state
   call-state = sym (f .state)
 
-  call-bytes : promised s (callOf s l f) .buffer ≡ l .bytes
-  call-bytes = call-accepted .buffer ∙ sym (f .bytes)
+  module _ (start : LineStart s) where
+    call-accepted : Accepted definedLine s (callOf s l f)
+    call-accepted = accepted definedLine defined-meets s (callOf s l f) (start .0) (f .number)
 
-  -- It starts and ends at a line start.
-  line-starts : LineStart s → LineStart (l .state)
-  line-starts start =
-      let next : l .state ≡ lineOf s (l .writes) .state = sym call-state ∙ call-accepted .state in
-      (rw next (line-good (l .writes) s (f .of-bytes) (start .0)), rw next (line-restarts s (l .writes) (start .1)))
+    call-bytes : definedLine s (callOf s l f) .buffer ≡ l .bytes
+    call-bytes = call-accepted .buffer ∙ sym (f .bytes)
+
+    -- It ends at a line start.
+    line-starts : LineStart (l .state)
+    line-starts =
+        let next : l .state ≡ lineOf s (l .writes) .state = sym call-state ∙ call-accepted .state in
+        let bytes = slice-bytes (l .writes) (f .slice) in
+        (rw next (line-good (l .writes) s bytes (start .0)), rw next (line-restarts s (l .writes) (start .1)))
 
 -- Played lines as a run of line calls.
 abbrev callsOf : (s : State) (ls : List PlayedLine) → Chained s ls → List Call
 callsOf s [] chain = []
 callsOf s (l ∷ ls) chain = callOf s l (chain .0) ∷ callsOf (l .state) ls (chain .1)
 
-calls-state : (s : State) (ls : List PlayedLine) (chain : Chained s ls) → stateAfter promised s (callsOf s ls chain) ≡ stateAfterLines s ls
+calls-state : (s : State) (ls : List PlayedLine) (chain : Chained s ls) → stateAfter definedLine s (callsOf s ls chain) ≡ stateAfterLines s ls
 calls-state s [] chain = refl
 calls-state s (l ∷ ls) chain =
-    ap (λ (t : State). stateAfter promised t (callsOf (l .state) ls (chain .1))) (call-state s l (chain .0))
+    ap (λ (t : State). stateAfter definedLine t (callsOf (l .state) ls (chain .1))) (call-state s l (chain .0))
     ∙ calls-state (l .state) ls (chain .1)
 
 calls-lists :
-    (s : State) (ls : List PlayedLine) (chain : Chained s ls) → acceptedLists promised s (callsOf s ls chain) ≡ recordsOfLines ls
+    (s : State) (ls : List PlayedLine) (chain : Chained s ls) → acceptedLists definedLine s (callsOf s ls chain) ≡ recordsOfLines ls
 unfolding acceptedLists
 calls-lists s [] chain = refl
 calls-lists s (l ∷ ls) chain =
     let accepted-one = eq-eqb (lineAnswer s (l .writes) 160 .number) 0 (chain .0 .number) in
     rw accepted-one
-    (ap (λ (t : State). recordsOf (l .writes) ∷ acceptedLists promised t (callsOf (l .state) ls (chain .1))) (call-state s l (chain .0))
+    (ap (λ (t : State). recordsOf (l .writes) ∷ acceptedLists definedLine t (callsOf (l .state) ls (chain .1))) (call-state s l (chain .0))
     ∙ ap (λ (later : List (List TimedWrite)). recordsOf (l .writes) ∷ later) (calls-lists (l .state) ls (chain .1)))
 
 chain-starts : (s : State) (ls : List PlayedLine) → Chained s ls → LineStart s → LineStart (stateAfterLines s ls)
@@ -76,8 +71,7 @@ chain-starts s [] chain start = start
 chain-starts s (l ∷ ls) chain start = chain-starts (l .state) ls (chain .1) (line-starts s l (chain .0) start)
 
 start-starts : LineStart startState
-unfolding startState
-start-starts = (start-good, refl)
+start-starts = (start-good, start-clock)
 
 -- The lines of a tape's replay.
 module _ (tape : List ℕ) (all : allBytes tape ≡ true) (o : Movable) where
@@ -91,7 +85,7 @@ module _ (tape : List ℕ) (all : allBytes tape ≡ true) (o : Movable) where
       let chain = rw split at whole in
       let running = chain-first s run after (chain-second startState before (run ++ after) chain) in
       let start = chain-starts startState before (chain-first startState before (run ++ after) chain) start-starts in
-      let claim = demand-3 promised meets o s (callsOf s run running) .0 start slot in
+      let claim = demand-3 definedLine defined-meets o s (callsOf s run running) .0 start slot in
       rw (calls-state s run running, calls-lists s run running) at (claim (rw (calls-lists s run running) ok))
 
   tape-picture : TapePicture o tape
@@ -101,8 +95,12 @@ module _ (tape : List ℕ) (all : allBytes tape ≡ true) (o : Movable) where
       let chain = rw split at whole in
       let start = chain-starts startState before (chain-first startState before _ chain) start-starts in
       let from-one = chain-second startState before (one ∷ two ∷ (run ++ last)) chain in
+      let one-ends = line-starts s one (from-one .0) start in
+      let two-ends = line-starts (one .state) two (from-one .1 .0) one-ends in
       let running = chain-first (two .state) run last (from-one .1 .1) in
+      let run-ends = chain-starts (two .state) run running two-ends in
       let from-three = chain-second (two .state) run last (from-one .1 .1) in
+      let three-ends = line-starts (stateAfterLines (two .state) run) three (from-three .0) run-ends in
       let calls = callsOf (two .state) run running in
       let quiet : QuietLines = record {
         first = callOf s one (from-one .0);
@@ -120,10 +118,10 @@ module _ (tape : List ℕ) (all : allBytes tape ≡ true) (o : Movable) where
         calls-state (two .state) run running,
         calls-lists (two .state) run running,
         call-state (stateAfterLines (two .state) run) three (from-three .0),
-        call-bytes (one .state) two (from-one .1 .0),
-        call-bytes (three .state) four (from-three .1 .0),
+        call-bytes (one .state) two (from-one .1 .0) one-ends,
+        call-bytes (three .state) four (from-three .1 .0) three-ends,
       )
-      at (demand-3 promised meets o s calls .1 quiet start) in
+      at (demand-3 definedLine defined-meets o s calls .1 quiet start) in
       claim ok drawn .1
 
 pub tape-demand-3 : TapeDemand3

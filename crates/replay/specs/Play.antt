@@ -40,19 +40,28 @@ bufferAt s ws buffer (Refused n) = buffer
 unfoldable pub playBuffer : State → (tape : List ℕ) (place : ℕ) (buffer : List ℕ) → List ℕ
 playBuffer s tape place buffer = bufferAt s (stretchAt tape place) buffer (readAt tape place)
 
--- What playing a line promises of its answer and of the buffer as it returns.
-abbrev pub PlayPromise : State → (tape : List ℕ) (place : ℕ) (buffer : List ℕ) (answer : PlayAnswer) (after : List ℕ) → Type 0
-PlayPromise state tape place buffer answer after =
-    (answer ≡ playAnswer state tape place (length buffer)) × (after ≡ playBuffer state tape place buffer)
-
--- The paper's numbers for each verdict: the refusal number (0: not refused), the index of the record at fault, and the next
--- place, 0 where there is none.
-pub record VerdictAnswer : Type 0 where
+-- The paper's numbers for each verdict: the case (0 played, 1 ended, 2 refused), the refusal number (0: not refused), the index of
+-- the record at fault, and the next place, 0 where there is none; then those of the answer. Different answers have different
+-- numbers (`same-play`).
+pub record VerdictNumbers : Type 0 where
+  pub case : ℕ
   pub number : ℕ
   pub index : ℕ
   pub place : ℕ
 
-abbrev pub verdictAnswer : Verdict → VerdictAnswer
-verdictAnswer (verdict.Played next) = record { number = 0; index = 0; place = next }
-verdictAnswer verdict.Ended = record { number = 0; index = 0; place = 0 }
-verdictAnswer (verdict.Refused n i) = record { number = n; index = i; place = 0 }
+abbrev pub verdictNumbers : Verdict → VerdictNumbers
+verdictNumbers (verdict.Played next) = record { case = 0; number = 0; index = 0; place = next }
+verdictNumbers verdict.Ended = record { case = 1; number = 0; index = 0; place = 0 }
+verdictNumbers (verdict.Refused n i) = record { case = 2; number = n; index = i; place = 0 }
+
+pub record PlayNumbers : Type 0 where
+  pub verdict : VerdictNumbers
+  pub state : State
+
+abbrev pub playNumbers : PlayAnswer → PlayNumbers
+playNumbers answer = record { verdict = verdictNumbers (answer .verdict); state = answer .state }
+
+-- What playing a line promises of its answer and of the buffer as it returns.
+abbrev pub PlayPromise : State → (tape : List ℕ) (place : ℕ) (buffer : List ℕ) (answer : PlayAnswer) (after : List ℕ) → Type 0
+PlayPromise state tape place buffer answer after =
+    (playNumbers answer ≡ playNumbers (playAnswer state tape place (length buffer))) × (after ≡ playBuffer state tape place buffer)

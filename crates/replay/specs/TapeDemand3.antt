@@ -7,10 +7,9 @@ use Rattle.tia.specs.State.{startState}
 use Rattle.tia.specs.Timing.{noMotion}
 use Rattle.tia.specs.Object.{columns}
 use Rattle.tia.specs.WriteList.{TimedWrite, recordsOf}
-use Rattle.tia.specs.FirstLit.{showsAt}
-use Rattle.tia.specs.Movable.{Movable, numberOf, positionOf, drawingOf}
+use Rattle.tia.specs.Movable.{Movable, positionOf, drawingOf}
 use Rattle.tia.specs.Run.{allBytes, allowed, sumOf}
-use Rattle.tia.specs.Demand3.{turned}
+use Rattle.tia.specs.Demand3.{turned, bitAt}
 use Rattle.replay.specs.Replay.{PlayedLine, stateAfterLines, replayOf}
 
 -- Take any tape, any of the five objects, and any lines that follow one another in the tape's replay. Let each of them have no
@@ -19,7 +18,7 @@ use Rattle.replay.specs.Replay.{PlayedLine, stateAfterLines, replayOf}
 --
 -- The position: if no motion is under way before these lines, they turn the object left by the sum, modulo 160. The picture: if two
 -- lines without writes come before them and two after, and the object's drawing registers before the first of these four are those
--- before the third, then column x of the fourth shows the object exactly where column (x + sum) modulo 160 of the second showed it.
+-- before the third, then column x of the fourth has the object's bit exactly where column (x + sum) modulo 160 of the second had it.
 -- A line that is refused ends the replay, so all of these lines are accepted.
 
 -- The records of some lines' writes.
@@ -44,7 +43,7 @@ TapePicture o tape =
     let lists = recordsOfLines run in
     allowed o lists ≡ true → drawingOf o (s .registers) ≡ drawingOf o (stateAfterLines (two .state) run .registers) →
     (x : ℕ) → x < columns →
-    showsAt (numberOf o) (four .bytes) x ≡ showsAt (numberOf o) (two .bytes) (turned x (sumOf o (two .state) lists))
+    bitAt o (four .bytes) x ≡ bitAt o (two .bytes) (turned x (sumOf o (two .state) lists))
 
 abbrev pub TapeDemand3 : Type 0
 TapeDemand3 = (tape : List ℕ) → allBytes tape ≡ true → (o : Movable) → TapePosition o tape × TapePicture o tape

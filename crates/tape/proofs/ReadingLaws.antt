@@ -9,11 +9,25 @@ use lib.Dec.{eqb, ltb}
 use lib.ListN.{length, getD, drop, length-drop}
 use lib.Seq.{length-take-le}
 use Rattle.laws.proofs.Bools.{or-second}
+use Rattle.laws.proofs.OneToOne.{one-to-one}
 use Rattle.laws.specs.Numbers.{badLength, forListLength, forVersion, forTapeEnd}
 use Rattle.tape.specs.declared.reading.Place.{Place}
 use Rattle.tape.specs.declared.reading.Place.the-variants.{Line, Ended, Refused}
-use Rattle.tape.specs.Reading.{badVersion, version1, lineAt, placeAt, readAt, stretchAt}
+use Rattle.tape.specs.Reading.{badVersion, version1, lineAt, placeAt, readAt, stretchAt, PlaceAnswer, placeAnswer}
 use Rattle.tape.specs.ReadingRows.{lengthAt, LineThere, Answered}
+
+-- Equal numbers mean equal answers.
+place-back : PlaceAnswer → Place
+place-back a = cond (eqb (a .case) 0) (Line (a .start) (a .end)) (cond (eqb (a .case) 1) Ended (Refused (a .number)))
+
+place-inverse : (p : Place) → place-back (placeAnswer p) ≡ p
+unfolding place-back
+place-inverse (Line start end) = refl
+place-inverse Ended = refl
+place-inverse (Refused n) = refl
+
+pub same-place : {p q : Place} → placeAnswer p ≡ placeAnswer q → p ≡ q
+same-place e = one-to-one placeAnswer place-back place-inverse e
 
 -- The version of an empty tape, and of any other.
 pub version-missing : (tape : List ℕ) → length tape ≡ 0 → badVersion tape ≡ true

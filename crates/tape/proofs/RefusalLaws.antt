@@ -3,7 +3,7 @@ use mathlib.Core.Path.{_≡_, _∙_, refl, ap}
 use mathlib.Core.List.{List, [], _∷_}
 use mathlib.Core.Logic.{inl, inr, ⊎-elim}
 use mathlib.Core.Bool.{Bool, true, false, cond, _&&_, _||_, not, true≢false}
-use Prim.Native.Nat.{ℕ, _+_, _%_, _≤_, _<_}
+use Prim.Native.Nat.{ℕ, _+_, _≤_, _<_}
 use native.Mathlib.Omega.{arith}
 use borrow.Author.Tests.{lt-ltb, le-ltb, le-leb, lt-leb, eq-eqb, ne-eqb, ltb-false}
 use lib.Dec.{eqb, ltb, leb}
@@ -12,9 +12,9 @@ use Rattle.laws.specs.Refusal.{GivenInOrder}
 use Rattle.laws.specs.Numbers.{badLength, forListLength, forVersion, forTapeEnd}
 use Rattle.laws.proofs.Bools.{or-second}
 use Rattle.laws.proofs.Split.{split}
-use Rattle.laws.proofs.Decides.{Decides, less, at-most, equal, differs, negation, either, both}
+use Rattle.laws.proofs.Decides.{Decides, less, at-most, equal, differs, negation, either, both, length-decided}
 use Rattle.laws.proofs.Refusals.{Check, check, firstOf, in-order}
-use Rattle.tape.specs.Reading.{badVersion, lineAt, placeAt, readAt, placeAnswer}
+use Rattle.tape.specs.Reading.{badVersion, lineAt, placeAt, readAt, placeAnswer, readAnswer}
 use Rattle.tape.specs.ReadingRows.{lengthAt, Unversioned, readingRows}
 use Rattle.tape.proofs.ReadingLaws.{byTests}
 
@@ -64,8 +64,7 @@ module _ (tape : List ℕ) (place : ℕ) where
 
   abbrev pub readingChecks : List {1} Check
   readingChecks =
-      let long = either _ _ (differs (lengthAt tape place % 3) 0) (less 684 (lengthAt tape place)) in
-      let bad = both whole _ (at-most (place + 2) (length tape)) long in
+      let bad = both whole _ (at-most (place + 2) (length tape)) (length-decided (lengthAt tape place)) in
       let cut = both whole _ (at-most (place + 2) (length tape)) (less (length tape) (place + 2 + lengthAt tape place)) in
       let out = either _ _ (less place 1) (less (length tape) place) in
       let lone = equal (place + 1) (length tape) in
@@ -111,7 +110,7 @@ module _ (tape : List ℕ) (place : ℕ) where
       (split place (length tape)))
       (split (place + 1) (length tape))
 
-  pub reading-number : placeAnswer (readAt tape place) .number ≡ firstOf readingChecks
+  pub reading-number : readAnswer tape place .number ≡ firstOf readingChecks
   unfolding readAt placeAt lineAt
   reading-number =
       let bytes = lengthAt tape place in
@@ -132,5 +131,5 @@ module _ (tape : List ℕ) (place : ℕ) where
       (ltb (length tape) (place + 2 + bytes)))
 
   -- Reading refuses by rows 8, 9 and 4, and nothing else.
-  pub read-refused-exactly : GivenInOrder (readingRows tape place) (placeAnswer (readAt tape place) .number)
+  pub read-refused-exactly : GivenInOrder (readingRows tape place) (readAnswer tape place .number)
   read-refused-exactly = rw reading-number (in-order readingChecks refl)

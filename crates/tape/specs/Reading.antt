@@ -10,6 +10,10 @@ use Rattle.laws.specs.Numbers.{badLength, forListLength, forVersion, forTapeEnd
 use Rattle.tape.specs.declared.reading.Place.{Place}
 use Rattle.tape.specs.declared.reading.Place.the-variants.{Line, Ended, Refused}
 
+-- The longest tape that a program takes.
+abbrev pub longest : ℕ
+longest = 65536
+
 -- A tape begins with its version byte. Refusal 8: tape empty or version not 1.
 unfoldable pub badVersion : List ℕ → Bool
 badVersion [] = true
@@ -67,15 +71,19 @@ startAt tape place = startOf (readAt tape place)
 abbrev pub PartFrom : (index : ℕ) (whole part : RefT (List ℕ)) → Type 0
 PartFrom index whole part = ptr part ≡ (ptr whole .0, index + ptr whole .1)
 
--- The paper's numbers for each case: the refusal number (0: not refused), the index of the record at fault, and the line's start
--- and end, 0 where there is no line.
+-- The paper's numbers for each case: the case (0 a line, 1 ended, 2 refused), the refusal number (0: not refused), the index of the
+-- record at fault, and the line's start and end, 0 where there is no line. Different answers have different numbers (`same-place`).
 pub record PlaceAnswer : Type 0 where
+  pub case : ℕ
   pub number : ℕ
   pub index : ℕ
   pub start : ℕ
   pub end : ℕ
 
 abbrev pub placeAnswer : Place → PlaceAnswer
-placeAnswer (Line start end) = record { number = 0; index = 0; start = start; end = end }
-placeAnswer Ended = record { number = 0; index = 0; start = 0; end = 0 }
-placeAnswer (Refused n) = record { number = n; index = 0; start = 0; end = 0 }
+placeAnswer (Line start end) = record { case = 0; number = 0; index = 0; start = start; end = end }
+placeAnswer Ended = record { case = 1; number = 0; index = 0; start = 0; end = 0 }
+placeAnswer (Refused n) = record { case = 2; number = n; index = 0; start = 0; end = 0 }
+
+abbrev pub readAnswer : List ℕ → (place : ℕ) → PlaceAnswer
+readAnswer tape place = placeAnswer (readAt tape place)

@@ -1,12 +1,12 @@
 -- What is said of reading a tape: the rows of the refusal table, when the tape has ended, and where a line lies.
-use Prim.Native.Nat.{ℕ, _+_, _-_, _%_, _≤_, _<_}
+use Prim.Native.Nat.{ℕ, _+_, _-_, _≤_, _<_}
 use mathlib.Core.Path.{_≡_}
 use mathlib.Core.Logic.{_⊎_}
 use mathlib.Core.Bool.{false}
 use mathlib.Core.List.{List, [], _∷_}
 use lib.ListN.{length, getD}
 use Rattle.laws.specs.Refusal.{Row, row}
-use Rattle.laws.specs.Numbers.{badLength, forListLength, forVersion, forTapeEnd}
+use Rattle.laws.specs.Numbers.{badLength, BadLength, forListLength, forVersion, forTapeEnd}
 use Rattle.tape.specs.declared.reading.Place.{Place}
 use Rattle.tape.specs.declared.reading.Place.the-variants.{Line, Ended, Refused}
 use Rattle.tape.specs.Reading.{version1}
@@ -26,9 +26,9 @@ Unversioned tape = (length tape ≡ 0) ⊎ (getD tape 0 0 ≡ 1 → ⊥)
 abbrev pub Misplaced : List ℕ → (place : ℕ) → Type 0
 Misplaced tape place = ((place < 1) ⊎ (length tape < place)) ⊎ (place + 1 ≡ length tape)
 
--- Row 4: the length is not a multiple of 3, or over 684.
+-- Row 4, of the line's length.
 abbrev pub BadLine : List ℕ → (place : ℕ) → Type 0
-BadLine tape place = HasLength tape place × ((lengthAt tape place % 3 ≡ 0 → ⊥) ⊎ (684 < lengthAt tape place))
+BadLine tape place = HasLength tape place × BadLength (lengthAt tape place)
 
 -- Row 9 after 4: the tape is cut short.
 abbrev pub CutLine : List ℕ → (place : ℕ) → Type 0

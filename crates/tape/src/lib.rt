@@ -4,6 +4,7 @@ mod refusal;
 mod stretch;
 
 pub use reading::FIRST_PLACE;
+pub use reading::LONGEST_TAPE;
 pub use reading::Place;
 pub use reading::read_at;
 pub use stretch::stretch_at;

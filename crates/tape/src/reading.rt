@@ -4,7 +4,7 @@ ghost use mathlib.Core.Path.{_≡_};
 ghost use Prim.Native.Nat.{_+_, _*_, _<_};
 ghost use lib.ListN.{length};
 ghost use Rattle.laws.specs.Numbers.{badLength};
-ghost use Rattle.tape.specs.Reading.{badVersion, version1, lineAt, readAt};
+ghost use Rattle.tape.specs.Reading.{badVersion, version1, lineAt, placeAnswer, readAnswer};
 use crate::refusal::LIST_LENGTH;
 use crate::refusal::TAPE_END;
 use crate::refusal::VERSION;
@@ -14,6 +14,9 @@ const VERSION_BYTE: u8 = 1;
 
 // Where the first line begins.
 pub const FIRST_PLACE: usize = 1;
+
+// The longest tape that a program takes.
+pub const LONGEST_TAPE: usize = 65536;
 
 // How many bytes a line's length has.
 const LENGTH_BYTES: usize = 2;
@@ -80,7 +83,7 @@ fn line_at(tape: &[u8], place: usize) -> Place
 // What stands at a place, any place up to the tape's end being taken as a line's beginning. Refuses a tape that is empty or of
 // another version (8), a place that is 0 or past the end and a lone length byte (9), a line's length (4), then a cut line (9).
 pub fn read_at(tape: &[u8], place: usize) -> Place
-    ensures { λ r. ⌜ r ≡ readAt (now (tape .entry)) place ⌝ }
+    ensures { λ r. ⌜ placeAnswer r ≡ readAnswer (now (tape .entry)) place ⌝ }
 {
     if is_bad_version(tape) {
         return Place::Refused(VERSION);

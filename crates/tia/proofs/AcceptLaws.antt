@@ -1,5 +1,5 @@
 -- An accepted line call and a refused one: the state that each hands back, and what acceptance shows of the list.
-use mathlib.Core.Path.{_≡_, _∙_, sym, ap}
+use mathlib.Core.Path.{_≡_, _∙_, refl, sym, ap}
 use mathlib.Core.List.{List, []}
 use mathlib.Core.Bool.{false}
 use Prim.Native.Nat.{ℕ}
@@ -12,10 +12,14 @@ use Rattle.tia.specs.State.{badState}
 use Rattle.tia.specs.WriteList.{recordsOf, firstFault, listFault}
 use Rattle.tia.specs.Line.{lineOf, picture}
 use Rattle.tia.specs.Answers.{lineFault, lineAnswer, lineBuffer}
-use Rattle.tia.specs.Run.{Call, LineCall, Meets}
+use Rattle.tia.specs.Run.{Call, LineCall, Meets, definedLine}
 use Rattle.tia.proofs.RisingLaws.{Rising, sound-by}
 use Rattle.tia.proofs.AnswerLaws.{no-fault}
 use Rattle.tia.proofs.RefusalLaws.{refused-line-state}
+
+-- The line call as it is defined meets its promise.
+pub defined-meets : Meets definedLine
+defined-meets s c good = (refl, refl)
 
 -- The state of an accepted call.
 accepted-answer :
@@ -29,24 +33,26 @@ pub record Accepted (line : LineCall) (s : State) (c : Call) : Type 0 where
   pub buffer : line s c .buffer ≡ picture (lineOf s (c .writes))
   pub rising : Rising 0 (recordsOf (c .writes))
 
-pub accepted : (line : LineCall) → Meets line → (s : State) (c : Call) → line s c .answer .number ≡ 0 → Accepted line s c
+pub accepted :
+    (line : LineCall) → Meets line → (s : State) (c : Call) → badState s ≡ false → line s c .answer .number ≡ 0 → Accepted line s c
 unfolding lineAnswer lineBuffer
-accepted line meets s c e =
+accepted line meets s c good e =
     record {
       number = e;
-      state = ap (λ (a : LineAnswer). a .state) (meets s c .0) ∙ accepted-answer s (c .writes) (length (c .buffer)) none;
-      buffer = meets s c .1 ∙ rw (eq-eqb (lineFault s (c .writes) (length (c .buffer)) .number) 0 none);
+      state = ap (λ (a : LineAnswer). a .state) (meets s c good .0) ∙ accepted-answer s (c .writes) (length (c .buffer)) none;
+      buffer = meets s c good .1 ∙ rw (eq-eqb (lineFault s (c .writes) (length (c .buffer)) .number) 0 none);
       rising = sound-by (c .writes) (no-fault s (c .writes) (length (c .buffer)) none .list) .rises;
     }
   where
     none : lineFault s (c .writes) (length (c .buffer)) .number ≡ 0
-    none = sym (ap (λ (a : LineAnswer). a .number) (meets s c .0)) ∙ e
+    none = sym (ap (λ (a : LineAnswer). a .number) (meets s c good .0)) ∙ e
 
 pub refused-state :
-    (line : LineCall) → Meets line → (s : State) (c : Call) → eqb (line s c .answer .number) 0 ≡ false → line s c .answer .state ≡ s
-refused-state line meets s c e =
-    ap (λ (a : LineAnswer). a .state) (meets s c .0)
-    ∙ refused-line-state s (c .writes) (length (c .buffer)) (eqb-false _ 0 (rw (meets s c .0) at e))
+    (line : LineCall) → Meets line → (s : State) (c : Call) → badState s ≡ false → eqb (line s c .answer .number) 0 ≡ false →
+    line s c .answer .state ≡ s
+refused-state line meets s c good e =
+    ap (λ (a : LineAnswer). a .state) (meets s c good .0)
+    ∙ refused-line-state s (c .writes) (length (c .buffer)) (eqb-false _ 0 (rw (meets s c good .0) at e))
 
 -- A line without writes is accepted from a good state at a line start.
 pub quiet-accepted :
@@ -54,5 +60,5 @@ pub quiet-accepted :
     s .timing .h ≡ 0 → Accepted line s c
 unfolding lineAnswer lineFault listFault recordsOf firstFault
 quiet-accepted line meets s c none room good start =
-    accepted line meets s c
-    (ap (λ (a : LineAnswer). a .number) (meets s c .0) ∙ rw (good, start, room, none))
+    accepted line meets s c good
+    (ap (λ (a : LineAnswer). a .number) (meets s c good .0) ∙ rw (good, start, room, none))

@@ -16,7 +16,8 @@ use Rattle.tia.specs.Clock.{clockOf}
 use Rattle.laws.specs.Numbers.{forBadState, forLineClock, forBufferLength, forUnknownRegister}
 use Rattle.tia.specs.WriteList.{faultAt, listFault}
 use Rattle.tia.specs.Line.{lineOf, picture}
-use Rattle.tia.specs.Answers.{refusedClock, givenClock, clockAnswer, refusedReadOut, givenReadOut, readOutAnswer, lineFault, lineAnswer, lineBuffer, LinePromise}
+use Rattle.tia.specs.Answers.{refusedClock, givenClock, clockAnswer, refusedReadOut, givenReadOut, readOutAnswer, lineFault, lineAnswer}
+use Rattle.tia.specs.Answers.{lineBuffer, LinePromise}
 
 -- A clock from a bad state is refusal 1, ..
 pub clock-bad : (s : State) (w : Write) → badState s ≡ true → clockAnswer s w ≡ refusedClock forBadState s

@@ -6,6 +6,7 @@ use Prim.Native.Nat.{ℕ, _+_, _%_, _<_}
 use native.Mathlib.Omega.{arith}
 use lib.IntN.{ℤ, pos}
 use lib.ListN.{getD}
+use Rattle.laws.specs.Bits.{bit}
 use Rattle.tia.specs.declared.state.State.{State}
 use Rattle.tia.specs.declared.write.Write.the-variants.{Nothing}
 use Rattle.tia.specs.State.{badState}
@@ -13,18 +14,17 @@ use Rattle.tia.specs.Signed.{mod160}
 use Rattle.tia.specs.Clock.{clockOf}
 use Rattle.tia.specs.WriteList.{recordsOf, writeAt}
 use Rattle.tia.specs.Line.{lineOf, picture}
-use Rattle.tia.specs.FirstLit.{shows}
 use Rattle.tia.specs.Movable.{Movable, Drawing, numberOf, positionOf, motionOf, motionRegisterOf, drawingOf}
 use Rattle.tia.specs.Run.{Call, LineCall, Meets, stateAfter, acceptedLists, reckonLines, sumOf}
-use Rattle.tia.specs.Demand3.{turned, Quiet, LineStart, PositionClaim, QuietLines, PictureClaim, Demand3}
+use Rattle.tia.specs.Demand3.{turned, bitAt, Quiet, LineStart, PositionClaim, QuietLines, PictureClaim, Demand3}
 use Rattle.tia.proofs.StateLaws.{good-timing}
 use Rattle.tia.proofs.LineLaws.{line-state, line-byte}
 use Rattle.tia.proofs.AcceptLaws.{Accepted, quiet-accepted}
-use Rattle.tia.proofs.TurnLaws.{mod-below, turned-by}
+use Rattle.tia.proofs.TurnLaws.{once-around, mod-below, turned-by}
 use Rattle.tia.proofs.MoveLaws.{unmoved-line}
 use Rattle.tia.proofs.DrawLaws.{Settled, drawnAt}
 use Rattle.tia.proofs.QuietLaws.{quietAt, QuietEnd, quiet-settles, quiet-keeps, quiet-shows}
-use Rattle.tia.proofs.RunLaws.{AtRest, InRun, line-good, position-below, idle-start, run-runs, run-starts}
+use Rattle.tia.proofs.RunLaws.{AtRest, InRun, slice-bytes, line-good, position-below, idle-start, run-runs, run-starts}
 
 -- The position after a run.
 pub position-claim : (line : LineCall) → Meets line → (o : Movable) (s : State) (calls : List Call) → PositionClaim line o s calls
@@ -60,7 +60,7 @@ quiet-line line meets o s c quiet at-start =
     next = a .state ∙ ap (λ (ws : List ℕ). lineOf s ws .state) (quiet .0) ∙ line-state s []
 
     good : badState (line s c .answer .state) ≡ false
-    good = rw (a .state) (line-good (c .writes) s (c .bytes) (at-start .0))
+    good = rw (a .state) (line-good (c .writes) s (slice-bytes (c .writes) (c .writes-slice)) (at-start .0))
 
     end : QuietEnd o (quietAt s 228)
     end = quiet-settles o s (at-start .1) (omega (arith, good-timing s (at-start .0) .1)) (position-below o s (at-start .0))
@@ -72,17 +72,14 @@ quiet-stays :
 quiet-stays line o s c rest quiet =
     ap (positionOf o) (quiet .next)
     ∙ unmoved-line o (λ i. Nothing) s (positionOf o s) (s .timing .late) (λ i. refl) (λ i. refl) (idle-start o s rest) .at
-    ∙ round (position-below o s (rest .good))
-  where
-    round : {p : ℕ} → p < 160 → (p + 160) % 160 ≡ p
-    round h = omega arith
+    ∙ once-around (position-below o s (rest .good))
 
 -- .. and shows a settled object in each column as it is drawn there.
 quiet-picture :
     (line : LineCall) (o : Movable) (s : State) (c : Call) → AtRest s → Settled o s → QuietLine line o s c → (x : ℕ) → x < 160 →
-    shows (numberOf o) (getD (line s c .buffer) x 0) ≡ drawnAt (drawingOf o (s .registers)) ((positionOf o s + x + 1) % 160)
+    bitAt o (line s c .buffer) x ≡ drawnAt (drawingOf o (s .registers)) ((positionOf o s + x + 1) % 160)
 quiet-picture line o s c rest settled quiet x h =
-    ap (shows (numberOf o)) (quiet .bytes x h)
+    ap (bit (numberOf o)) (quiet .bytes x h)
     ∙ quiet-shows o s x h (position-below o s (rest .good)) settled (idle-start o s rest)
 
 -- Both lines show the object as drawn at the same position.
@@ -138,10 +135,7 @@ picture-claim line meets o s quiet calls at-start ok drawn =
         quiet-stays line o s3 (quiet .third) (run .at-rest) three ∙ run .at
         ∙ ap (λ (p : ℕ). turned p sum) (quiet-stays line o s1 (quiet .second) (one .at-rest) two)
 
-    column :
-        (x : ℕ) → x < 160 →
-        shows (numberOf o) (getD (line s4 (quiet .last) .buffer) x 0)
-        ≡ shows (numberOf o) (getD (line s1 (quiet .second) .buffer) (turned x sum) 0)
+    column : (x : ℕ) → x < 160 → bitAt o (line s4 (quiet .last) .buffer) x ≡ bitAt o (line s1 (quiet .second) .buffer) (turned x sum)
     column x h =
         quiet-picture line o s4 (quiet .last) (three .at-rest) (three .settled) four x h
         ∙ ap (λ (d : Drawing). drawnAt d ((positionOf o s4 + x + 1) % 160)) drawing

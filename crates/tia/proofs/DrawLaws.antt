@@ -4,16 +4,15 @@ use mathlib.Core.Logic.{⊎-elim}
 use mathlib.Core.Bool.{Bool, true, false, cond, _&&_}
 use Prim.Native.Nat.{ℕ, zero, suc, _+_, _%_, _<_, _≤_}
 use native.Mathlib.Omega.{arith}
-use lib.Dec.{leb}
 use Rattle.laws.proofs.Split.{split}
 use Rattle.tia.specs.declared.lit.Lit.{Lit}
 use Rattle.tia.specs.declared.state.State.{State}
 use Rattle.tia.specs.declared.write.Write.the-variants.{Nothing}
-use Rattle.tia.specs.Registers.{registersAfter}
-use Rattle.tia.specs.Object.{reached, older, starts, sizeOf, objectMoved, objectAfter, playerAfter, missileAfter, ballAfter}
-use Rattle.tia.specs.Lit.{drawnFrom, widthOf, playerLit, missileLit, ballLit, litOf}
-use Rattle.tia.specs.Clock.{objectsAfter, clockOf}
+use Rattle.tia.specs.Object.{reached, older, starts, sizeOf}
+use Rattle.tia.specs.Lit.{drawnFrom, drawnWide, playerLit, missileLit, ballLit, litOf}
+use Rattle.tia.specs.Clock.{clockOf}
 use Rattle.tia.specs.Movable.{Movable, P0, P1, M0, M1, BL, Drawing, player, missile, ball, bodyOf, positionOf, motionRegisterOf, drawingOf}
+use Rattle.tia.proofs.Computing.{objectSteps}
 use Rattle.tia.proofs.TrackLaws.{trackOf, pulsedOn, clock-position}
 
 -- The copies that an object's starts go by.
@@ -42,7 +41,7 @@ abbrev pub quietNext : State → State
 quietNext s = clockOf s Nothing .state
 
 pub quiet-registers : (s : State) → quietNext s .registers ≡ s .registers
-unfolding clockOf registersAfter
+unfolding objectSteps
 quiet-registers s = refl
 
 pub quiet-position : (o : Movable) (s : State) → positionOf o (quietNext s) ≡ reached (pulsed o s) (positionOf o s)
@@ -52,7 +51,7 @@ quiet-age :
     (o : Movable) (s : State) →
     bodyOf o (quietNext s .objects) .age
     ≡ cond (startedOn o s) 0 (cond (pulsed o s) (older (bodyOf o (s .objects) .age)) (bodyOf o (s .objects) .age))
-unfolding pulsedOn clockOf registersAfter objectsAfter playerAfter missileAfter ballAfter objectAfter objectMoved
+unfolding pulsedOn objectSteps
 quiet-age P0 s = refl
 quiet-age P1 s = refl
 quiet-age M0 s = refl
@@ -75,7 +74,7 @@ kept true size held e = refl
 kept false size held e = e
 
 size-taken : (o : Movable) (s : State) → startedOn o s ≡ true → SizeHeld o (quietNext s)
-unfolding pulsedOn clockOf registersAfter objectsAfter playerAfter objectAfter objectMoved
+unfolding pulsedOn objectSteps
 size-taken P0 s e = taken (startedOn P0 s) (sizeOf (copiesAt P0 s)) (s .objects .p0 .size) e
 size-taken P1 s e = taken (startedOn P1 s) (sizeOf (copiesAt P1 s)) (s .objects .p1 .size) e
 size-taken M0 s e = tt
@@ -83,7 +82,7 @@ size-taken M1 s e = tt
 size-taken BL s e = tt
 
 size-kept : (o : Movable) (s : State) → SizeHeld o s → SizeHeld o (quietNext s)
-unfolding pulsedOn clockOf registersAfter objectsAfter playerAfter objectAfter objectMoved
+unfolding pulsedOn objectSteps
 size-kept P0 s e = kept (startedOn P0 s) (sizeOf (copiesAt P0 s)) (s .objects .p0 .size) e
 size-kept P1 s e = kept (startedOn P1 s) (sizeOf (copiesAt P1 s)) (s .objects .p1 .size) e
 size-kept M0 s e = tt
@@ -138,13 +137,10 @@ settled-from-zero o s pulse last =
     }
 
 -- The picture of a settled object, by its position.
-abbrev drawnAge : (lit : Bool) (code age : ℕ) → Bool
-drawnAge lit code age = lit && (leb 4 age && leb age (3 + widthOf code))
-
 unfoldable pub drawnAt : Drawing → ℕ → Bool
 drawnAt (player copies graphic) p = drawnFrom graphic (sizeOf copies) (settledAge copies p)
-drawnAt (missile copies width enable) p = drawnAge enable width (settledAge copies p)
-drawnAt (ball width new old delayed) p = drawnAge (cond delayed old new) width (settledAge 0 p)
+drawnAt (missile copies width enable) p = drawnWide enable width (settledAge copies p)
+drawnAt (ball width new old delayed) p = drawnWide (cond delayed old new) width (settledAge 0 p)
 
 abbrev pub flagOf : Movable → Lit → Bool
 flagOf P0 l = l .p0

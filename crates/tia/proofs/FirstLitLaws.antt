@@ -1,4 +1,4 @@
--- The search for the first lit column: what is left of the buffer decides it.
+-- The search for the first lit column: what is left of the buffer decides it; and its answers by their numbers.
 use mathlib.Core.Path.{_≡_, refl, sym}
 use mathlib.Core.Bool.{Bool, true, false, cond, not}
 use mathlib.Core.List.{List}
@@ -9,11 +9,26 @@ use borrow.Author.Count.{below-none, below-more}
 use borrow.Author.Tests.{eq-eqb, ne-eqb, lt-ltb, le-ltb, eqb-true}
 use lib.Dec.{eqb, ltb}
 use lib.ListN.{length, getD, drop, drop-of-length-le}
+use Rattle.laws.proofs.OneToOne.{one-to-one}
+use Rattle.tia.specs.declared.first_lit.FirstLit.{FirstLit}
 use Rattle.tia.specs.declared.first_lit.FirstLit.the-variants.{Column, Unlit, Refused}
 use Rattle.laws.specs.Numbers.{forBufferLength, forNoSuch}
-use Rattle.tia.specs.FirstLit.{shows, firstFrom, firstLitOf}
+use Rattle.tia.specs.FirstLit.{shows, firstFrom, firstLitOf, ColumnAnswer, columnAnswer}
 use Rattle.tia.specs.LineRows.{DarkBelow, Smallest}
 use Rattle.tia.proofs.CursorLaws.{left-at}
+
+-- Equal numbers mean equal answers.
+column-back : ColumnAnswer → FirstLit
+column-back a = cond (eqb (a .case) 0) (Column (a .column)) (cond (eqb (a .case) 1) Unlit (Refused (a .number)))
+
+column-inverse : (a : FirstLit) → column-back (columnAnswer a) ≡ a
+unfolding column-back
+column-inverse (Column x) = refl
+column-inverse Unlit = refl
+column-inverse (Refused n) = refl
+
+pub same-column : {a b : FirstLit} → columnAnswer a ≡ columnAnswer b → a ≡ b
+same-column e = one-to-one columnAnswer column-back column-inverse e
 
 -- The answer by cases: refusal 3, refusal 10, or the search from column 0.
 pub room-refused : (buffer : List ℕ) (object : ℕ) → (length buffer ≡ 160 → ⊥) → firstLitOf buffer object ≡ Refused forBufferLength

@@ -1,27 +1,60 @@
--- The laws of the chip, and the cases that are proved by running its definitions.
-pub mod AcceptLaws
-pub mod AnswerLaws
-pub mod CursorLaws
-pub mod Demand3Laws
-pub mod DrawLaws
-pub mod FirstBadLaws
-pub mod FirstLitLaws
-pub mod GoodLaws
-pub mod LineLaws
-pub mod LitLaws
-pub mod MotionLaws
-pub mod MoveLaws
-pub mod PhaseLaws
-pub mod PremiseLaws
-pub mod QuietLaws
-pub mod RangeLaws
-pub mod ReckonLaws
-pub mod RefusalLaws
-pub mod RisingLaws
-pub mod RunLaws
-pub mod ScanlineLaws
-pub mod StateLaws
-pub mod TableProofs
-pub mod TrackLaws
-pub mod TurnLaws
+-- The laws of the chip, in the order of the argument.
+
+-- Definitions that open together, so that no list of them stands twice.
+pub mod Computing
+-- == One colour clock
+-- The known addresses are four ranges, as the code tests them.
 pub mod WriteLaws
+-- The state check as the code decides it; what a good state shows; the start state is good.
+pub mod StateLaws
+-- The slot that ends a motion, 8 plus the signed value, is a remainder; a pulse steps the position counter.
+pub mod MotionLaws
+-- When a player is lit, by its age; an answer byte shows an object exactly where it has the object's bit.
+pub mod LitLaws
+-- Registers, objects and timing stay in their ranges, ..
+pub mod RangeLaws
+-- .. so every clock keeps a good state good.
+pub mod GoodLaws
+-- == The line call
+-- The clocks of a list that passed its check rise, and the write on a clock is found in what is left of it.
+pub mod RisingLaws
+-- The code's cursor into the list gives the write that the definition looks up.
+pub mod CursorLaws
+-- A line is its 228 clocks: the state and the answer byte of each.
+pub mod LineLaws
+-- The code's line under way: state, cursor and filled columns after each clock.
+pub mod ScanlineLaws
+-- The answers of clock, read-out and line, by the branches of the code.
+pub mod AnswerLaws
+-- The search for the first lit column finds the smallest; equal numbers mean equal answers.
+pub mod FirstLitLaws
+-- == Refusals: given exactly when
+-- The check of a list gives the number and the index of its first bad record.
+pub mod FirstBadLaws
+-- Each call's refusals are given exactly when their rows hold, in their order.
+pub mod RefusalLaws
+-- == Demand 3
+-- A line call that meets its promise: what an accepted one and a refused one hand back.
+pub mod AcceptLaws
+-- One clock acts on an object's timing, motion value and live flag alone, and they make its pulses.
+pub mod TrackLaws
+-- Clocks at rest, and clocks of a motion, one after another.
+pub mod PhaseLaws
+-- A line's pulses: 160 without HMOVE, and 152 and the slot that ends the motion with one at clocks 0 to 15.
+pub mod MoveLaws
+-- The sum by a line's records is the sum by its clocks.
+pub mod ReckonLaws
+-- The premises, read off a line's records, hold of the write of each clock.
+pub mod PremiseLaws
+-- Turning by integers modulo 160.
+pub mod TurnLaws
+-- So each accepted line of a run turns an object by its signed motion value.
+pub mod RunLaws
+-- What is drawn of an object that has passed position 0: a function of its position.
+pub mod DrawLaws
+-- A line without writes ends every motion, lets every object pass 0, and shows it by its position.
+pub mod QuietLaws
+-- Demand 3, from these.
+pub mod Demand3Laws
+-- == Cases that are proved by running the definitions
+pub mod TableProofs

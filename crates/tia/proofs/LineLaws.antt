@@ -6,12 +6,15 @@ use native.Mathlib.Nat.{add-zero, zero-add, add-suc, suc-add, le-of-suc-le-suc, 
 use native.Mathlib.Omega.{arith}
 use lib.ListN.{length, getD, length-drop}
 use lib.Seq.{getD-drop}
+use Rattle.laws.specs.Bits.{bit}
 use Rattle.laws.specs.Steps.{after}
 use Rattle.tia.specs.declared.state.State.{State}
 use Rattle.tia.specs.declared.write.Write.{Write}
 use Rattle.tia.specs.Clock.{clockOf}
 use Rattle.tia.specs.WriteList.{recordsOf, writeAt}
 use Rattle.tia.specs.Line.{clocksFrom, lineOf, picture}
+use Rattle.tia.specs.FirstLit.{showsAt}
+use Rattle.tia.proofs.LitLaws.{shows-is-bit}
 
 -- The state before clock n, from the state before clock 0, and the answer byte of clock n.
 unfoldable pub stateAt : (ℕ → Write) → State → ℕ → State
@@ -102,3 +105,10 @@ line-restarts s ws start =
     228
     (λ i l h. tt)
     (rw (state-first (writesOf ws) s) start))
+
+-- A column of a line shows an object exactly where it has the object's bit.
+pub line-shows-bits :
+    (s : State) (ws : List ℕ) (x object : ℕ) → x < 160 → object < 6 →
+    showsAt object (picture (lineOf s ws)) x ≡ bit object (getD (picture (lineOf s ws)) x 0)
+unfolding clockOf
+line-shows-bits s ws x object h few = rw (line-byte s ws x h) (shows-is-bit _ _ _ object few)

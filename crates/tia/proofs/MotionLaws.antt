@@ -1,8 +1,8 @@
--- An object's motion and position: the compared value is 8 plus the signed motion value, and a pulse steps the position counter.
+-- An object's motion and position: the slot that ends a motion as a natural number, and a pulse steps the position counter.
 use mathlib.Core.Path.{_≡_, _∙_, sym, ap}
 use mathlib.Core.Logic.{⊎-elim}
 use mathlib.Core.Bool.{Bool, true, cond}
-use Prim.Native.Nat.{ℕ, _%_, _<_, _≤_}
+use Prim.Native.Nat.{ℕ, _+_, _-_, _%_, _<_, _≤_}
 use native.Mathlib.Omega.{arith}
 use borrow.Author.Tests.{lt-ltb, le-ltb}
 use lib.Dec.{eqb}
@@ -17,20 +17,29 @@ use Rattle.tia.specs.declared.object.Object.{Object}
 use Rattle.tia.specs.Signed.{signed}
 use Rattle.tia.specs.Object.{compareValue, counterValue, reached, pulsedIf}
 
--- The value that the slot is compared with is 8 plus the signed motion value.
-upright : (m : ℕ) → m < 8 → pos (compareValue m) ≡ pos 8 +ℤ pos m
-upright m l = ap pos (omega arith) ∙ sym (pos-+ℤ-pos 8 m)
-
-turned : (m : ℕ) → 8 ≤ m → m ≤ 15 → pos (compareValue m) ≡ pos 8 +ℤ (pos m -ℤ pos 16)
-turned m l h =
-    sym (+ℤ-negℤ-cancel (pos (compareValue m)) (pos 16))
-    ∙ ap (λ (k : ℤ). k -ℤ pos 16) (pos-+ℤ-pos (compareValue m) 16 ∙ ap pos (omega arith) ∙ sym (pos-+ℤ-pos 8 m))
-    ∙ +ℤ-assoc (pos 8) (pos m) (negℤ (pos 16))
-
-pub compare-is-signed : (m : ℕ) → m ≤ 15 → pos (compareValue m) ≡ pos 8 +ℤ signed m
+-- A number plus a signed motion value, for values below 8 and from 8 on.
+pub plus-upward : (n m : ℕ) → m < 8 → pos n +ℤ signed m ≡ pos (m + n)
 unfolding signed
-compare-is-signed m h =
-    ⊎-elim (λ (l : m < 8). rw (lt-ltb m 8 l) (upright m l)) (λ (l : 8 ≤ m). rw (le-ltb m 8 l) (turned m l h)) (split m 8)
+plus-upward n m l = rw (lt-ltb m 8 l) (pos-+ℤ-pos n m ∙ ap pos (omega arith))
+
+pub plus-downward : (n m : ℕ) → 8 ≤ m → 8 ≤ n → n ≤ 16 → pos n +ℤ signed m ≡ pos (m - (16 - n))
+unfolding signed
+plus-downward n m l from to =
+    rw (le-ltb m 8 l)
+    (sym (+ℤ-assoc (pos n) (pos m) (negℤ (pos 16)))
+    ∙ ap (λ (k : ℤ). k -ℤ pos 16) (pos-+ℤ-pos n m ∙ ap pos (omega arith) ∙ sym (pos-+ℤ-pos (m - (16 - n)) 16))
+    ∙ +ℤ-negℤ-cancel (pos (m - (16 - n))) (pos 16))
+
+-- The slot that ends a motion is, for a half byte, the remainder of 8 plus it modulo 16.
+abbrev pub endSlot : ℕ → ℕ
+endSlot m = (m + 8) % 16
+
+pub compare-is-remainder : (m : ℕ) → m ≤ 15 → compareValue m ≡ pos (endSlot m)
+compare-is-remainder m h =
+    ⊎-elim
+    (λ (l : m < 8). plus-upward 8 m l ∙ ap pos (omega arith))
+    (λ (l : 8 ≤ m). plus-downward 8 m l (omega arith) (omega arith) ∙ ap pos (omega arith))
+    (split m 8)
 
 -- One pulse steps the position counter exactly when position modulo 4 is 3, and leaves it otherwise.
 pub pulse-steps-counter :

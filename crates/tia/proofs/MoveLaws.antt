@@ -15,12 +15,13 @@ use Rattle.tia.specs.declared.timing.Timing.{Timing}
 use Rattle.tia.specs.declared.write.Write.{Write}
 use Rattle.tia.specs.declared.write.Write.the-variants.{Nothing, Register}
 use Rattle.tia.specs.Write.{HMCLR, HMOVE, hits}
-use Rattle.tia.specs.Object.{compareValue}
+use Rattle.tia.specs.Signed.{signed}
 use Rattle.tia.specs.Clock.{clockOf}
 use Rattle.tia.specs.Movable.{Movable, P0, P1, M0, M1, BL, motionOf, strobeOf, motionRegisterOf}
 use Rattle.tia.specs.Timing.{timingWritten}
 use Rattle.tia.proofs.GoodLaws.{hmove-waits}
 use Rattle.tia.proofs.LineLaws.{stateAt, state-first}
+use Rattle.tia.proofs.MotionLaws.{endSlot}
 use Rattle.tia.proofs.TrackLaws.{Track, trackOf, trackNext, timingNext, pulsedOn, resting, clock-track, Undisturbed}
 use Rattle.tia.proofs.PhaseLaws.{Rest, restNext, stepped, Idle, idle-step, idle-phase, Moving, movingNext, OnTrack, moving-phase}
 
@@ -51,17 +52,17 @@ rest-of-line : after restNext 151 (record { h = 77; late = true; pulses = 0 }) �
 unfolding after restNext
 rest-of-line = refl
 
--- Clocks c + 1 to 75 of a motion give as many extra pulses as the compared value says; its last slot is then the next, or it
--- has ended: computed for every clock and every half byte.
+-- Clocks c + 1 to 75 of a motion give as many extra pulses as there are slots before the one that ends it; its last slot is then the
+-- next, or it has ended: computed for every clock and every half byte.
 isMoved : (c motion : ℕ) → Bool
 isMoved c m =
     let end = after movingNext (75 - c) (movingFrom (c + 1) m) in
     let t = end .track .timing in
-    eqb (end .pulses) (compareValue m)
+    eqb (end .pulses) (endSlot m)
     && (eqb (t .h) 76 && (t .late && (eqb (t .slot) 15 || (eqb (t .slot) 16 && not (end .track .live)))))
 
 all-moved : T (everyBelow 16 (λ c. everyBelow 16 (λ m. isMoved c m)))
-unfolding isMoved after movingNext trackNext timingNext pulsedOn
+unfolding isMoved after movingNext trackNext timingNext pulsedOn signed
 all-moved = tt
 
 -- HMOVE in the horizontal blank starts a motion with the object's motion value, without a pulse.
@@ -146,7 +147,9 @@ last-slot-pulse :
 unfolding pulsedOn
 last-slot-pulse hm w t e = rw e
 
-rebased : (o : Movable) (s : State) (p q h : ℕ) (late : Bool) → Idle o s p (record { h = h; late = late; pulses = q }) → Idle o s (p + q) (record { h = h; late = late; pulses = 0 })
+rebased :
+    (o : Movable) (s : State) (p q h : ℕ) (late : Bool) → Idle o s p (record { h = h; late = late; pulses = q }) →
+    Idle o s (p + q) (record { h = h; late = late; pulses = 0 })
 rebased o s p q h late idle = record { timing = idle .timing; still = idle .still; at = idle .at ∙ omega arith }
 
 last-slot :
@@ -211,12 +214,12 @@ at-last pulses value h slot motion late live t =
           (or-cases (eqb slot 15) _ (and-second late _ from-late));
     }
 
-moved-at : (c m : ℕ) → c < 16 → m < 16 → AtLast (after movingNext (75 - c) (movingFrom (c + 1) m)) (compareValue m)
+moved-at : (c m : ℕ) → c < 16 → m < 16 → AtLast (after movingNext (75 - c) (movingFrom (c + 1) m)) (endSlot m)
 unfolding isMoved
 moved-at c m early half =
     let end = after movingNext (75 - c) (movingFrom (c + 1) m) in
     let t = end .track .timing in
-    at-last (end .pulses) (compareValue m) (t .h) (t .slot) (end .track .motion) (t .late) (end .track .live)
+    at-last (end .pulses) (endSlot m) (t .h) (t .slot) (end .track .motion) (t .late) (end .track .live)
     (below 16 (λ m. isMoved c m) (below 16 (λ c. everyBelow 16 (λ m. isMoved c m)) all-moved c early) m half)
 
 -- The writes of a line with one HMOVE, at clock c.
@@ -261,19 +264,21 @@ until-move o writes s p c late m idle =
 until-last :
     (o : Movable) (writes : ℕ → Write) (s : State) (p c m : ℕ) → m ≤ 15 → MovedAt o writes c →
     OnTrack o (stateAt writes s (suc c)) p (movingFrom (c + 1) m) →
-    Idle o (stateAt writes s 77) (p + suc (compareValue m)) afterLast
+    Idle o (stateAt writes s 77) (p + suc (endSlot m)) afterLast
 unfolding stateAt
 until-last o writes s p c m half w moves =
     rw (last .pulses) at
     (⊎-elim
-    (λ (e : end .track .timing ≡ record { h = 76; slot = 15; late = true }). last-slot o (stateAt writes s 76) (writes 76) p end e unmoved (w .unstrobed 76) there)
-    (λ (e : (end .track .timing ≡ resting 76 true) × (end .track .live ≡ false)). ended o (stateAt writes s 76) (writes 76) p end (e .0) (e .1) unmoved (w .unstrobed 76) there)
+    (λ (e : end .track .timing ≡ record { h = 76; slot = 15; late = true }).
+    last-slot o (stateAt writes s 76) (writes 76) p end e unmoved (w .unstrobed 76) there)
+    (λ (e : (end .track .timing ≡ resting 76 true) × (end .track .live ≡ false)).
+    ended o (stateAt writes s 76) (writes 76) p end (e .0) (e .1) unmoved (w .unstrobed 76) there)
     (last .timing))
   where
     end : Moving
     end = after movingNext (75 - c) (movingFrom (c + 1) m)
 
-    last : AtLast end (compareValue m)
+    last : AtLast end (endSlot m)
     last = moved-at c m (omega (arith, w .early)) (omega arith)
 
     unmoved : hits (writes 76) HMOVE ≡ false
@@ -287,18 +292,18 @@ until-last o writes s p c m half w moves =
         rw clocks at
         (moving-phase o writes s p (movingFrom (c + 1) m) (suc c) (75 - c) (λ i l h. w .undisturbed i l (omega (arith, h, w .early))) (w .unstrobed) moves)
 
--- A line with one HMOVE at clocks 0 to 15: at its end the object is at rest, moved by the compared value and 152 pulses.
+-- A line with one HMOVE at clocks 0 to 15: at its end the object is at rest, moved by the slot that ends its motion and 152 pulses.
 pub moved-line :
     (o : Movable) (writes : ℕ → Write) (s : State) (p c : ℕ) (late : Bool) → MovedAt o writes c → motionOf o (stateAt writes s c) ≤ 15 →
     Idle o s p (atStart late) →
-    Idle o (stateAt writes s 228) (p + suc (compareValue (motionOf o (stateAt writes s c)))) (record { h = 0; late = true; pulses = 151 })
+    Idle o (stateAt writes s 228) (p + suc (endSlot (motionOf o (stateAt writes s c)))) (record { h = 0; late = true; pulses = 151 })
 moved-line o writes s p c late m half idle =
     rw rest-of-line at
     (idle-phase
     o
     writes
     s
-    (p + suc (compareValue (motionOf o (stateAt writes s c))))
+    (p + suc (endSlot (motionOf o (stateAt writes s c))))
     afterLast
     77
     151

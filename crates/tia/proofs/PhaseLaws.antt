@@ -8,11 +8,13 @@ use Rattle.tia.specs.declared.state.State.{State}
 use Rattle.tia.specs.declared.write.Write.{Write}
 use Rattle.tia.specs.declared.write.Write.the-variants.{Nothing}
 use Rattle.tia.specs.Write.{HMOVE, hits}
+use Rattle.tia.specs.Timing.{lateAtStart}
 use Rattle.tia.specs.Object.{reached}
 use Rattle.tia.specs.Clock.{clockOf}
 use Rattle.tia.specs.Movable.{Movable, bodyOf, positionOf, strobeOf, motionRegisterOf}
 use Rattle.tia.proofs.LineLaws.{stateAt, over-clocks}
-use Rattle.tia.proofs.TrackLaws.{Track, trackOf, trackNext, timingNext, pulsedOn, clock-track, clock-position, Undisturbed, undisturbed-track, undisturbed-pulse, resting, lateNext, visibleAt, resting-timing, resting-live, resting-pulse}
+use Rattle.tia.proofs.TrackLaws.{Track, trackOf, trackNext, timingNext, pulsedOn, clock-track, clock-position, Undisturbed, undisturbed-track}
+use Rattle.tia.proofs.TrackLaws.{undisturbed-pulse, resting, visibleAt, resting-timing, resting-live, resting-pulse}
 
 -- A position after one pulse more, or none.
 advanced : (pulse : Bool) (p q : ℕ) → reached pulse ((p + q) % 160) ≡ (p + cond pulse (suc q) q) % 160
@@ -37,7 +39,7 @@ unfoldable pub restNext : Rest → Rest
 restNext r =
     record {
       h = (r .h + 1) % 228;
-      late = lateNext (r .h) (r .late);
+      late = lateAtStart (r .h) (r .late);
       pulses = cond (visibleAt (r .h) (r .late)) (suc (r .pulses)) (r .pulses);
     }
 

@@ -9,10 +9,10 @@ use lib.Dec.{eqb, leb}
 use Rattle.laws.proofs.Bools.{and-first, and-second, or-first, or-second, not-true}
 use Rattle.tia.specs.declared.write.Write.{Write}
 use Rattle.tia.specs.declared.write.Write.the-variants.{Register}
-use Rattle.tia.specs.Write.{HMBL, HMCLR, HMOVE, HMP0, hits}
+use Rattle.tia.specs.Write.{HMCLR, HMOVE, hits}
 use Rattle.tia.specs.WriteList.{TimedWrite, writeAt}
 use Rattle.tia.specs.Movable.{Movable, P0, P1, M0, M1, BL, strobeOf, motionRegisterOf}
-use Rattle.tia.specs.Run.{anyRecord, hmoveClocks, disturbs, movesWithin, strobeUnused}
+use Rattle.tia.specs.Run.{anyRecord, hmoveClocks, isMotion, disturbs, movesWithin, strobeUnused}
 use Rattle.tia.proofs.RisingLaws.{Rising, rising-from, writes-none}
 use Rattle.tia.proofs.MoveLaws.{MovedAt}
 
@@ -36,7 +36,10 @@ not-written : (a n : ℕ) (rs : List TimedWrite) → anyRecord (writesOn n a) rs
 unfolding writeAt
 not-written a n [] e = refl
 not-written a n (r ∷ rs) e =
-    by-test (eqb (r .clock) n) (or-first (writesOn n a r) (anyRecord (writesOn n a) rs) e) (not-written a n rs (or-second (writesOn n a r) (anyRecord (writesOn n a) rs) e))
+    by-test
+    (eqb (r .clock) n)
+    (or-first (writesOn n a r) (anyRecord (writesOn n a) rs) e)
+    (not-written a n rs (or-second (writesOn n a r) (anyRecord (writesOn n a) rs) e))
   where
     by-test :
         (b : Bool) → (b && eqb (r .address) a) ≡ false → hits (writeAt rs n) a ≡ false →
@@ -47,11 +50,11 @@ not-written a n (r ∷ rs) e =
 -- The object's strobe is on no clock.
 pub strobe-never : (o : Movable) (rs : List TimedWrite) → strobeUnused o rs ≡ true → (n : ℕ) → hits (writeAt rs n) (strobeOf o) ≡ false
 strobe-never o rs e n =
-    not-written
-    (strobeOf o)
-    n
-    rs
-    (narrower (λ r. eqb (r .address) (strobeOf o)) (writesOn n (strobeOf o)) (λ r t. and-second (eqb (r .clock) n) _ t) rs (not-true (anyRecord (λ r. eqb (r .address) (strobeOf o)) rs) e))
+    not-written (strobeOf o) n rs
+    (narrower strobes (writesOn n (strobeOf o)) (λ r t. and-second (eqb (r .clock) n) _ t) rs (not-true (anyRecord strobes rs) e))
+  where
+    strobes : TimedWrite → Bool
+    strobes r = eqb (r .address) (strobeOf o)
 
 -- HMOVE is written on the clocks of the HMOVEs.
 abbrev among : ℕ → List ℕ → Bool
@@ -81,9 +84,6 @@ pub unmoved-by : (rs : List TimedWrite) → Rising 0 rs → hmoveClocks rs ≡ [
 unmoved-by rs rise none n = hmove-lookup n 0 rs rise ∙ ap (among n) none
 
 -- A motion register or HMCLR is on no clock after the HMOVE's, up to clock 75.
-abbrev isMotion : ℕ → Bool
-isMotion a = (leb HMP0 a && leb a HMBL) || eqb a HMCLR
-
 motion-register : (o : Movable) → isMotion (motionRegisterOf o) ≡ true
 motion-register P0 = refl
 motion-register P1 = refl

@@ -7,8 +7,9 @@ use native.Mathlib.Nat.{zero-add, add-suc}
 use native.Mathlib.Omega.{arith}
 use borrow.Author.Tests.{eqb-true, le-ltb}
 use lib.Dec.{T, eqb}
+use Rattle.laws.specs.Bits.{bit}
 use Rattle.laws.specs.Steps.{after}
-use Rattle.laws.proofs.Bools.{and-first, and-second, is-true, holds-of, everySix, at-six}
+use Rattle.laws.proofs.Bools.{and-first, and-second, is-true, holds-of}
 use Rattle.laws.proofs.Split.{split}
 use Rattle.laws.proofs.Table.{everyBelow, below, same}
 use Rattle.tia.specs.declared.lit.Lit.{Lit}
@@ -20,13 +21,14 @@ use Rattle.tia.specs.Timing.{timingWritten, blank}
 use Rattle.tia.specs.Object.{reached}
 use Rattle.tia.specs.Lit.{litOf, litBits, answerByte}
 use Rattle.tia.specs.Clock.{clockOf}
-use Rattle.tia.specs.FirstLit.{shows}
 use Rattle.tia.specs.Movable.{Movable, P0, P1, M0, M1, BL, numberOf, positionOf, motionRegisterOf, drawingOf}
+use Rattle.tia.proofs.LitLaws.{everyLit, at-lit}
 use Rattle.tia.proofs.LineLaws.{stateAt, state-first, over-clocks}
 use Rattle.tia.proofs.TrackLaws.{Track, trackOf, trackNext, timingNext, pulsedOn, clock-track, resting}
 use Rattle.tia.proofs.PhaseLaws.{restNext, Idle, idle-phase}
 use Rattle.tia.proofs.MoveLaws.{atStart}
-use Rattle.tia.proofs.DrawLaws.{pulsed, quietNext, quiet-registers, quiet-position, Settled, settled-stays, settled-from-zero, drawnAt, flagOf, settled-lit}
+use Rattle.tia.proofs.DrawLaws.{pulsed, quietNext, quiet-registers, quiet-position, Settled, settled-stays, settled-from-zero, drawnAt}
+use Rattle.tia.proofs.DrawLaws.{flagOf, settled-lit}
 
 -- The state before clock n of a line without writes.
 abbrev pub quietAt : State → ℕ → State
@@ -127,7 +129,18 @@ sweep-over o s w q none sweeping = rw none (sweep-step o s q sweeping)
 
 sweep : (o : Movable) (s : State) (q : Sweep) → Sweeping o s q → Sweeping o (quietAt s 228) (after sweepNext 228 q)
 sweep o s q sweeping =
-    over-clocks (λ s q. Sweeping o s q) sweepNext (λ w. w ≡ Nothing) (sweep-over o) (λ i. Nothing) s q 0 228 (λ i l h. refl) (rw (state-first (λ i. Nothing) s) sweeping)
+    over-clocks
+    (λ s q. Sweeping o s q)
+    sweepNext
+    (λ w. w ≡ Nothing)
+    (sweep-over o)
+    (λ i. Nothing)
+    s
+    q
+    0
+    228
+    (λ i l h. refl)
+    (rw (state-first (λ i. Nothing) s) sweeping)
 
 -- A line without writes ends every motion and settles every object.
 pub record QuietEnd (o : Movable) (s : State) : Type 0 where
@@ -142,7 +155,11 @@ quiet-settles o s start slot below-160 =
     record {
       start = ap (λ (t : Timing). t .h) (end .timing) ∙ eqb-true (line .timing .h) 0 (and-first (eqb (line .timing .h) 0) _ all);
       rest = ap (λ (t : Timing). t .slot) (end .timing) ∙ eqb-true (line .timing .slot) 16 (and-first (eqb (line .timing .slot) 16) _ from-slot);
-      settled = ⊎-elim (λ (settled : Settled o (quietAt s 228)). settled) (λ (far : line .visible ≤ positionOf o (quietAt s 228)). absurd (omega (arith, far, seen, end .below-160))) (end .progress);
+      settled =
+          ⊎-elim
+          (λ (settled : Settled o (quietAt s 228)). settled)
+          (λ (far : line .visible ≤ positionOf o (quietAt s 228)). absurd (omega (arith, far, seen, end .below-160)))
+          (end .progress);
     }
   where
     t : Timing
@@ -185,22 +202,20 @@ unfolding stateAt
 settled-at o s h settled zero = settled
 settled-at o s h settled (suc n) = settled-stays o (quietAt s n) (position-stays o s h n) (settled-at o s h settled n)
 
--- An answer byte shows the object that its bit stands for.
-abbrev litFrom : (p0 p1 m0 m1 bl pf : Bool) → Lit
-litFrom p0 p1 m0 m1 bl pf = record { p0 = p0; p1 = p1; m0 = m0; m1 = m1; bl = bl; pf = pf }
+-- The bits of an answer byte are the lit objects.
+abbrev isBit : Movable → Lit → Bool
+isBit o l = Bool·beq (bit (numberOf o) (litBits l)) (flagOf o l)
 
-shows-test : (o : Movable) → everySix (λ a b c d e f. Bool·beq (shows (numberOf o) (litBits (litFrom a b c d e f))) (flagOf o (litFrom a b c d e f))) ≡ true
-unfolding shows litBits
-shows-test P0 = refl
-shows-test P1 = refl
-shows-test M0 = refl
-shows-test M1 = refl
-shows-test BL = refl
+all-bits : (o : Movable) → everyLit (isBit o) ≡ true
+unfolding litBits
+all-bits P0 = refl
+all-bits P1 = refl
+all-bits M0 = refl
+all-bits M1 = refl
+all-bits BL = refl
 
-shows-lit : (o : Movable) (l : Lit) → shows (numberOf o) (litBits l) ≡ flagOf o l
-shows-lit o l =
-    same _ _
-    (holds-of _ (at-six (λ a b c d e f. Bool·beq (shows (numberOf o) (litBits (litFrom a b c d e f))) (flagOf o (litFrom a b c d e f))) (shows-test o) (l .p0) (l .p1) (l .m0) (l .m1) (l .bl) (l .pf)))
+bit-lit : (o : Movable) (l : Lit) → bit (numberOf o) (litBits l) ≡ flagOf o l
+bit-lit o l = same _ _ (holds-of _ (at-lit (isBit o) (all-bits o) l))
 
 -- A clock without a write answers by what is lit after it.
 quiet-byte :
@@ -217,12 +232,12 @@ visible-byte h l visible = rw (le-ltb h 68 visible)
 unblanked : (x : ℕ) → blank (timingWritten Nothing (resting (68 + x) false)) ≡ false
 unblanked x = rw (le-ltb (68 + x) 68 (omega arith), and-false, and-false)
 
-visible-shows :
+visible-bit :
     (o : Movable) (s : State) (x : ℕ) → s .timing ≡ resting (68 + x) false →
-    shows (numberOf o) (clockOf s Nothing .byte) ≡ flagOf o (litOf (68 + x) (quietNext s .registers) (quietNext s .objects))
-visible-shows o s x rest =
-    ap (shows (numberOf o)) (quiet-byte s ∙ rw (rest, unblanked x) (visible-byte (68 + x) _ (omega arith)))
-    ∙ shows-lit o (litOf (68 + x) (quietNext s .registers) (quietNext s .objects))
+    bit (numberOf o) (clockOf s Nothing .byte) ≡ flagOf o (litOf (68 + x) (quietNext s .registers) (quietNext s .objects))
+visible-bit o s x rest =
+    ap (bit (numberOf o)) (quiet-byte s ∙ rw (rest, unblanked x) (visible-byte (68 + x) _ (omega arith)))
+    ∙ bit-lit o (litOf (68 + x) (quietNext s .registers) (quietNext s .objects))
 
 -- Column x of a line at rest: h is 68 + x, and there were x pulses.
 first-column : (late : Bool) → after restNext 68 (atStart late) ≡ record { h = 68; late = false; pulses = 0 }
@@ -245,11 +260,11 @@ column-rest late (suc x) h = rw (add-suc 68 x, column-rest late x (omega arith))
 -- In a line without writes column x shows a settled object as it is drawn at the position after its pulse.
 pub quiet-shows :
     (o : Movable) (s : State) (x : ℕ) → x < 160 → positionOf o s < 160 → Settled o s → Idle o s (positionOf o s) (atStart (s .timing .late)) →
-    shows (numberOf o) (clockOf (quietAt s (68 + x)) Nothing .byte)
+    bit (numberOf o) (clockOf (quietAt s (68 + x)) Nothing .byte)
     ≡ drawnAt (drawingOf o (s .registers)) ((positionOf o s + x + 1) % 160)
 unfolding stateAt
 quiet-shows o s x column h settled idle =
-    visible-shows o (quietAt s (68 + x)) x (here .timing)
+    visible-bit o (quietAt s (68 + x)) x (here .timing)
     ∙ settled-lit o (quietAt s (suc (68 + x))) (68 + x) (settled-at o s h settled (suc (68 + x)))
     ∙ rw (quiet-keeps s (suc (68 + x)), there) refl
   where

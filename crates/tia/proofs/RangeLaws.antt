@@ -16,11 +16,13 @@ use Rattle.tia.specs.declared.state.Objects.{Objects}
 use Rattle.tia.specs.declared.timing.Tick.{Tick}
 use Rattle.tia.specs.declared.timing.Timing.{Timing}
 use Rattle.tia.specs.declared.write.Write.{Write}
-use Rattle.tia.specs.Write.{ByteWritten, NUSIZ0, NUSIZ1, CTRLPF, REFP0, REFP1, PF0, PF1, PF2, GRP0, GRP1, HMBL, HMM0, HMM1, HMP0, HMP1, RESBL, RESM0, RESM1, RESP0, RESP1, VDELP0, VDELP1, HMOVE, HMCLR, hits, byteOf}
+use Rattle.tia.specs.Write.{ByteWritten, NUSIZ0, NUSIZ1, CTRLPF, REFP0, REFP1, PF0, PF1, PF2, GRP0, GRP1, HMBL, HMM0, HMM1, HMP0, HMP1, RESBL}
+use Rattle.tia.specs.Write.{RESM0, RESM1, RESP0, RESP1, VDELP0, VDELP1, HMOVE, HMCLR, hits, byteOf}
 use Rattle.tia.specs.Registers.{upper, nusizAfter, graphicAfter, playfieldAfter, registersAfter}
 use Rattle.tia.specs.State.{timingInRange, objectInRange, playerInRange, objectsInRange, nusizInRange, playfieldInRange, graphicInRange, registersInRange}
 use Rattle.tia.specs.Timing.{timingWritten, comparing, timingAfter}
-use Rattle.tia.specs.Object.{objectWritten, slotPassed, pulsedIf, strobedIf, isPulsed, isStarted, older, sizeOf, objectMoved, objectAfter, playerAfter, missileAfter, ballAfter}
+use Rattle.tia.specs.Object.{objectWritten, slotPassed, pulsedIf, strobedIf, isPulsed, isStarted, older, sizeOf, objectMoved, objectAfter}
+use Rattle.tia.specs.Object.{playerAfter, missileAfter, ballAfter}
 use Rattle.tia.specs.Clock.{objectsAfter}
 
 -- One of two numbers up to a limit.
@@ -146,7 +148,13 @@ unfolding playerInRange playerAfter isSize
 player-stays k strobe hm copies w p ok =
     and-both
     (object-stays k strobe hm copies w (p .body) (and-first (objectInRange (p .body)) _ ok))
-    (cond-passes isSize (objectAfter k strobe hm copies w (p .body) .started) {x = sizeOf copies} {y = p .size} (size-taken copies) (and-second (objectInRange (p .body)) _ ok))
+    (cond-passes
+    isSize
+    (objectAfter k strobe hm copies w (p .body) .started)
+    {x = sizeOf copies}
+    {y = p .size}
+    (size-taken copies)
+    (and-second (objectInRange (p .body)) _ ok))
 
 ball-stays : (k : Tick) (w : Write) (o : Object) → objectInRange o ≡ true → objectInRange (ballAfter k w o) ≡ true
 unfolding ballAfter

@@ -80,8 +80,12 @@ records-from hm zero n (r ∷ rs) k rise all = absurd (omega (arith, rise .0, ri
 records-from hm (suc count) n [] k rise all = none-due hm [] n count k refl (records-from hm count (suc n) [] k tt (omega arith))
 records-from hm (suc count) n (r ∷ rs) k rise all =
     ⊎-elim
-    (λ (l : n < r .clock). none-due hm (r ∷ rs) n count k (writes-none n (r ∷ rs) (omega arith, rise .1)) (records-from hm count (suc n) (r ∷ rs) k (omega arith, rise .1) (omega arith)))
-    (λ (l : r .clock ≤ n). record-due hm r rs n count k (omega (arith, rise .0)) (records-from hm count (suc n) rs (reckon hm k r) (rising-from (suc n) (r .clock + 1) rs (omega (arith, rise .0)) (rise .1 .1 .1)) (omega arith)))
+    (λ (l : n < r .clock).
+    none-due hm (r ∷ rs) n count k (writes-none n (r ∷ rs) (omega arith, rise .1))
+    (records-from hm count (suc n) (r ∷ rs) k (omega arith, rise .1) (omega arith)))
+    (λ (l : r .clock ≤ n).
+    let later = rising-from (suc n) (r .clock + 1) rs (omega (arith, rise .0)) (rise .1 .1 .1) in
+    record-due hm r rs n count k (omega (arith, rise .0)) (records-from hm count (suc n) rs (reckon hm k r) later (omega arith)))
     (split n (r .clock))
 
 -- A line's reckoning by its records is that by its clocks.

@@ -2,13 +2,13 @@
 use mathlib.Core.Path.{_≡_, _∙_, refl, ap}
 use mathlib.Core.List.{List, [], _∷_}
 use mathlib.Core.Bool.{Bool, true, false, cond, not}
-use Prim.Native.Nat.{ℕ, suc, _%_, _≤_}
+use Prim.Native.Nat.{ℕ, suc, _≤_}
 use native.Mathlib.Omega.{arith}
 use borrow.Author.Tests.{ne-eqb}
 use lib.Dec.{eqb, ltb}
 use lib.ListN.{length}
 use Rattle.laws.specs.Refusal.{GivenInOrder}
-use Rattle.laws.proofs.Decides.{Decides, less, differs, either, passes, misses}
+use Rattle.laws.proofs.Decides.{Decides, less, differs, either, passes, misses, length-decided}
 use Rattle.laws.proofs.Refusals.{Check, check, firstOf, in-order}
 use Rattle.tia.specs.declared.clock.Clocked.{Clocked}
 use Rattle.tia.specs.declared.first_lit.FirstLit.{FirstLit}
@@ -22,8 +22,9 @@ use Rattle.tia.specs.State.{inRange, liveAtRest, badState}
 use Rattle.tia.specs.Clock.{clockOf}
 use Rattle.laws.specs.Numbers.{badLength, forBadState, forLineClock, forBufferLength, forListLength, forClockOver, forClockOrder, forUnknownRegister, forNoSuch}
 use Rattle.tia.specs.WriteList.{TimedWrite, recordsOf, firstFault, faultAt, listFault}
-use Rattle.tia.specs.FirstLit.{shows, firstFrom, firstLitOf, columnAnswer}
-use Rattle.tia.specs.Answers.{badStateRow, unknownRegisterRow, refusedClock, givenClock, clockAnswer, refusedReadOut, givenReadOut, readOutAnswer, lineFault, lineAnswer, lineBuffer}
+use Rattle.tia.specs.FirstLit.{shows, firstFrom, firstLitOf, columnAnswer, firstLitAnswer}
+use Rattle.tia.specs.Answers.{badStateRow, unknownRegisterRow, refusedClock, givenClock, clockAnswer, refusedReadOut, givenReadOut}
+use Rattle.tia.specs.Answers.{readOutAnswer, lineFault, lineAnswer, lineBuffer}
 use Rattle.tia.specs.LineRows.{IndexGiven, lineRows, firstLitRows}
 use Rattle.tia.proofs.FirstBadLaws.{list-decided, fault-number, list-index}
 
@@ -69,7 +70,7 @@ lineChecks s ws room =
     check forBadState (badState s) (bad-decided s)
     ∷ check forLineClock (not (eqb (s .timing .h) 0)) (differs (s .timing .h) 0)
     ∷ check forBufferLength (not (eqb room 160)) (differs room 160)
-    ∷ check forListLength (badLength (length ws)) (either _ _ (differs (length ws % 3) 0) (less 684 (length ws)))
+    ∷ check forListLength (badLength (length ws)) (length-decided (length ws))
     ∷ check forClockOver (eqb number forClockOver) (list-decided (recordsOf ws) forClockOver (λ e. omega (arith, e)))
     ∷ check forClockOrder (eqb number forClockOrder) (list-decided (recordsOf ws) forClockOrder (λ e. omega (arith, e)))
     ∷ check forUnknownRegister (eqb number forUnknownRegister) (list-decided (recordsOf ws) forUnknownRegister (λ e. omega (arith, e)))
@@ -157,7 +158,7 @@ column-number false false found none = none
 
 -- The first lit column refuses by row 3, then row 10, and nothing else.
 pub first-lit-refused-exactly :
-    (buffer : List ℕ) (object : ℕ) → GivenInOrder (firstLitRows buffer object) (columnAnswer (firstLitOf buffer object) .number)
+    (buffer : List ℕ) (object : ℕ) → GivenInOrder (firstLitRows buffer object) (firstLitAnswer buffer object .number)
 unfolding firstLitOf
 first-lit-refused-exactly buffer object =
     rw (column-number (not (eqb (length buffer) 160)) (ltb 5 object) (firstFrom object 0 buffer) (search-number object 0 buffer))

@@ -2,12 +2,13 @@
 use mathlib.Core.Path.{_≡_, _∙_, refl, sym, ap}
 use mathlib.Core.List.{List, [], _∷_}
 use mathlib.Core.Bool.{Bool, true, false, cond, _&&_, true≢false}
-use Prim.Native.Nat.{ℕ, zero, suc, _+_, _-_, _%_, _<_, _≤_, zero-le}
+use Prim.Native.Nat.{ℕ, zero, suc, _+_, _-_, _%_, _^_, _<_, _≤_, zero-le}
 use native.Mathlib.Nat.{zero-add}
 use native.Mathlib.Omega.{arith}
 use borrow.Author.Tests.{leb-true, eqb-true}
-use lib.Dec.{eqb, leb}
+use lib.Dec.{eqb, ltb, leb}
 use lib.IntN.{pos, _+ℤ_}
+use lib.ListN.{length}
 use Rattle.laws.proofs.Bools.{and-first, and-second}
 use Rattle.tia.specs.declared.state.Objects.{Objects}
 use Rattle.tia.specs.declared.state.State.{State}
@@ -16,11 +17,11 @@ use Rattle.tia.specs.declared.write.Write.the-variants.{Register}
 use Rattle.tia.specs.Write.{HMOVE, ByteWritten, hits, byteOf}
 use Rattle.tia.specs.State.{isByte, timingInRange, objectInRange, playerInRange, objectsInRange, inRange, anyLive, badState}
 use Rattle.tia.specs.Signed.{signed, mod160}
-use Rattle.tia.specs.Object.{compareValue}
 use Rattle.tia.specs.WriteList.{TimedWrite, recordsOf, writeAt}
 use Rattle.tia.specs.Line.{lineOf}
 use Rattle.tia.specs.Movable.{Movable, P0, P1, M0, M1, BL, bodyOf, positionOf, motionOf, motionRegisterOf}
-use Rattle.tia.specs.Run.{allBytes, Call, LineCall, Meets, stateAfter, acceptedLists, Reckoning, reckonLine, reckonLines, hmoveClocks, movesWithin, strobeUnused, allowed}
+use Rattle.tia.specs.Run.{allBytes, isSlice, Call, LineCall, Meets, stateAfter, acceptedLists, Reckoning, reckonLine, reckonLines, hmoveClocks}
+use Rattle.tia.specs.Run.{movesWithin, strobeUnused, allowed}
 use Rattle.tia.specs.Demand3.{turned}
 use Rattle.tia.proofs.StateLaws.{good-in-range, good-rest}
 use Rattle.tia.proofs.GoodLaws.{none-live, good-stays}
@@ -28,11 +29,16 @@ use Rattle.tia.proofs.LineLaws.{stateAt, writesOf, line-state}
 use Rattle.tia.proofs.RisingLaws.{Rising}
 use Rattle.tia.proofs.AcceptLaws.{accepted, refused-state}
 use Rattle.tia.proofs.TrackLaws.{resting}
+use Rattle.tia.proofs.MotionLaws.{endSlot}
 use Rattle.tia.proofs.PhaseLaws.{Idle}
 use Rattle.tia.proofs.MoveLaws.{atStart, MovedAt, moved-line, unmoved-line}
 use Rattle.tia.proofs.ReckonLaws.{reckonAt, clocks-are-records, half-is-motion, half-below, sum-stays, sum-moves}
 use Rattle.tia.proofs.PremiseLaws.{strobe-never, unmoved-by, moved-by}
-use Rattle.tia.proofs.TurnLaws.{turned-twice, turned-signed}
+use Rattle.tia.proofs.TurnLaws.{not-turned, once-around, turned-twice, turned-signed}
+
+-- What a slice holds are bytes.
+pub slice-bytes : (vs : List ℕ) → isSlice vs ≡ true → allBytes vs ≡ true
+slice-bytes vs slice = and-first (allBytes vs) (ltb (length vs) (2 ^ 63)) slice
 
 -- What a line of bytes writes is a byte, ..
 byte-written : (ws : List ℕ) → allBytes ws ≡ true → (n : ℕ) → ByteWritten (writesOf ws n)
@@ -108,14 +114,11 @@ idle-start o s a =
     record {
       timing = rebuilt (s .timing .h) (s .timing .slot) (s .timing .late) (a .start) (a .rest);
       still = still-object o s (good-rest s (a .good) (a .rest));
-      at = same (position-below o s (a .good));
+      at = not-turned (position-below o s (a .good));
     }
   where
     rebuilt : (h slot : ℕ) (late : Bool) → h ≡ 0 → slot ≡ 16 → _≡_ {A = Timing} (record { h = h; slot = slot; late = late }) (resting 0 late)
     rebuilt h slot late e f = rw (e, f)
-
-    same : {p : ℕ} → p < 160 → p ≡ (p + 0) % 160
-    same h = omega arith
 
 -- An object at a line start of a run, turned by the sum so far.
 pub record InRun (o : Movable) (p : ℕ) (s : State) (k : Reckoning) : Type 0 where
@@ -154,14 +157,11 @@ unfolding reckonAt
 runs-unmoved o p s ws k all rise none unused run =
     line-end o p (positionOf o s) s ws k false 160 all rise run
     (unmoved-line o (writesOf ws) s (positionOf o s) (s .timing .late) unmoved (strobe-never o (recordsOf ws) unused) (idle-start o s (run .at-rest)))
-    (round (position-below o s (run .at-rest .good)) ∙ run .at
+    (once-around (position-below o s (run .at-rest .good)) ∙ run .at
     ∙ ap (turned p) (sym (sum-stays (motionRegisterOf o) (writesOf ws) k 0 228 (λ i l h. unmoved i))))
   where
     unmoved : (i : ℕ) → hits (writesOf ws i) HMOVE ≡ false
     unmoved = unmoved-by (recordsOf ws) rise none
-
-    round : {p : ℕ} → p < 160 → (p + 160) % 160 ≡ p
-    round h = omega arith
 
 -- .. and one with an HMOVE at clock c turns it by the signed motion value.
 runs-moved :
@@ -170,9 +170,9 @@ runs-moved :
     InRun o p (lineOf s ws .state) (reckonLine (motionRegisterOf o) k (recordsOf ws))
 unfolding reckonAt
 runs-moved o p c s ws k all rise moved run =
-    line-end o p (positionOf o s + suc (compareValue m)) s ws k true 151 all rise run
+    line-end o p (positionOf o s + suc (endSlot m)) s ws k true 151 all rise run
     (moved-line o (writesOf ws) s (positionOf o s) c (s .timing .late) moved half (idle-start o s (run .at-rest)))
-    (pulses (positionOf o s) (compareValue m) ∙ sym (turned-signed (positionOf o s) m half)
+    (pulses (positionOf o s) (endSlot m) ∙ sym (turned-signed (positionOf o s) m half)
     ∙ ap (λ (n : ℕ). turned n (signed m)) (run .at) ∙ turned-twice p (k .sum) (signed m) ∙ ap (turned p) (sym sum))
   where
     hm : ℕ
@@ -235,23 +235,31 @@ run-runs line meets o p (c ∷ cs) s k run ok =
 
     by-test :
         (b : Bool) → eqb (line s c .answer .number) 0 ≡ b → allowed o (cond b (rs ∷ later) later) ≡ true →
-        ((k : Reckoning) → InRun o p (line s c .answer .state) k → allowed o later ≡ true → InRun o p (stateAfter line s (c ∷ cs)) (reckonLines (motionRegisterOf o) k later)) →
+        ((k : Reckoning) → InRun o p (line s c .answer .state) k → allowed o later ≡ true →
+        InRun o p (stateAfter line s (c ∷ cs)) (reckonLines (motionRegisterOf o) k later)) →
         InRun o p (stateAfter line s (c ∷ cs)) (reckonLines (motionRegisterOf o) k (cond b (rs ∷ later) later))
     by-test true t ok rest =
-        let a = accepted line meets s c (eqb-true (line s c .answer .number) 0 t) in
+        let a = accepted line meets s c (run .at-rest .good) (eqb-true (line s c .answer .number) 0 t) in
         let from = and-second (movesWithin (hmoveClocks rs) rs) _ ok in
         rest
         (reckonLine (motionRegisterOf o) k rs)
         (rw (a .state)
-        (line-runs o p s (c .writes) k (c .bytes) (a .rising) (and-first (movesWithin (hmoveClocks rs) rs) _ ok) (and-first (strobeUnused o rs) _ from) run))
+        (line-runs
+        o
+        p
+        s
+        (c .writes)
+        k
+        (slice-bytes (c .writes) (c .writes-slice))
+        (a .rising)
+        (and-first (movesWithin (hmoveClocks rs) rs) _ ok)
+        (and-first (strobeUnused o rs) _ from)
+        run))
         (and-second (strobeUnused o rs) _ from)
-    by-test false t ok rest = rest k (rw (refused-state line meets s c t) run) ok
+    by-test false t ok rest = rest k (rw (refused-state line meets s c (run .at-rest .good) t) run) ok
 
 -- At the run's start nothing is turned.
 pub run-starts : (o : Movable) (s : State) → AtRest s → InRun o (positionOf o s) s (record { half = motionOf o s; sum = pos 0 })
 unfolding mod160
 run-starts o s a =
-    record { at-rest = a; motion = refl; half = motion-below o s (a .good); at = same (position-below o s (a .good)) }
-  where
-    same : {p : ℕ} → p < 160 → p ≡ (p + 0) % 160
-    same h = omega arith
+    record { at-rest = a; motion = refl; half = motion-below o s (a .good); at = not-turned (position-below o s (a .good)) }

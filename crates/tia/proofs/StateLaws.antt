@@ -9,7 +9,9 @@ use Rattle.tia.specs.declared.registers.Graphic.{Graphic}
 use Rattle.tia.specs.declared.registers.Registers.{Registers}
 use Rattle.tia.specs.declared.state.State.{State}
 use Rattle.tia.specs.declared.timing.Timing.{Timing}
-use Rattle.tia.specs.State.{timingInRange, playerInRange, objectsInRange, nusizInRange, playfieldInRange, graphicInRange, registersInRange, inRange, anyLive, liveAtRest, badState, startState}
+use Rattle.tia.specs.State.{timingInRange, nusizInRange, playfieldInRange, graphicInRange, registersInRange}
+use Rattle.tia.specs.State.{inRange, anyLive, liveAtRest, badState, startState}
+use Rattle.tia.proofs.Computing.{check}
 
 -- A graphic of bytes is in range.
 graphic-bytes : (g : Graphic) → g .new ≤ 255 → g .old ≤ 255 → graphicInRange g ≡ true
@@ -71,7 +73,11 @@ good-by s in-range rest =
     by-test true e = rest (eqb-true (s .timing .slot) 16 e)
     by-test false e = refl
 
--- The start state is good.
+-- The start state is good, at a line start.
 pub start-good : badState startState ≡ false
-unfolding badState inRange liveAtRest objectsInRange playerInRange registersInRange playfieldInRange graphicInRange startState
+unfolding check startState
 start-good = refl
+
+pub start-clock : startState .timing .h ≡ 0
+unfolding startState
+start-clock = refl

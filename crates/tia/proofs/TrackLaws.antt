@@ -2,7 +2,6 @@
 use mathlib.Core.Path.{_≡_, refl}
 use mathlib.Core.Bool.{Bool, false, cond, _&&_, not, or-false}
 use Prim.Native.Nat.{ℕ, _+_, _%_}
-use lib.Dec.{eqb}
 use Rattle.tia.specs.declared.object.Object.{Object}
 use Rattle.tia.specs.declared.state.State.{State}
 use Rattle.tia.specs.declared.timing.Tick.{Tick}
@@ -10,10 +9,11 @@ use Rattle.tia.specs.declared.timing.Timing.{Timing}
 use Rattle.tia.specs.declared.write.Write.{Write}
 use Rattle.tia.specs.declared.write.Write.the-variants.{Nothing}
 use Rattle.tia.specs.Write.{HMCLR, HMOVE, hits}
-use Rattle.tia.specs.Timing.{timingWritten, blank, comparing, tickOf, timingAfter}
-use Rattle.tia.specs.Object.{objectWritten, slotPassed, isPulsed, reached, objectMoved, objectAfter, playerAfter, missileAfter, ballAfter}
-use Rattle.tia.specs.Clock.{objectsAfter, clockOf}
+use Rattle.tia.specs.Timing.{lateAtStart, timingWritten, blank, comparing, tickOf, timingAfter}
+use Rattle.tia.specs.Object.{objectWritten, slotPassed, isPulsed, reached}
+use Rattle.tia.specs.Clock.{clockOf}
 use Rattle.tia.specs.Movable.{Movable, P0, P1, M0, M1, BL, bodyOf, positionOf, strobeOf, motionRegisterOf}
+use Rattle.tia.proofs.Computing.{objectSteps}
 
 pub record Track : Type 0 where
   pub timing : Timing
@@ -47,7 +47,7 @@ pulsedOn hm w t = isPulsed (tickAt w (t .timing)) (anywhere hm w t)
 
 -- A clock acts on an object's track alone, ..
 pub clock-track : (o : Movable) (s : State) (w : Write) → trackOf o (clockOf s w .state) ≡ trackNext (motionRegisterOf o) w (trackOf o s)
-unfolding trackNext timingNext clockOf objectsAfter playerAfter missileAfter ballAfter objectAfter objectMoved
+unfolding trackNext timingNext objectSteps
 clock-track P0 s w = refl
 clock-track P1 s w = refl
 clock-track M0 s w = refl
@@ -59,7 +59,7 @@ pub clock-position :
     (o : Movable) (s : State) (w : Write) →
     positionOf o (clockOf s w .state)
     ≡ cond (hits w (strobeOf o)) 0 (reached (pulsedOn (motionRegisterOf o) w (trackOf o s)) (positionOf o s))
-unfolding pulsedOn clockOf objectsAfter playerAfter missileAfter ballAfter objectAfter objectMoved
+unfolding pulsedOn objectSteps
 clock-position P0 s w = refl
 clock-position P1 s w = refl
 clock-position M0 s w = refl
@@ -85,17 +85,14 @@ undisturbed-pulse hm w t u = rw (u .motion, u .clear, u .move)
 abbrev pub resting : ℕ → Bool → Timing
 resting h late = record { h = h; slot = 16; late = late }
 
--- The late flag after a clock without HMOVE, and whether the clock is visible.
-abbrev pub lateNext : ℕ → Bool → Bool
-lateNext h late = not (eqb h 0) && late
-
+-- Whether a clock without HMOVE is visible.
 abbrev pub visibleAt : ℕ → Bool → Bool
-visibleAt h late = not (blank (resting h (lateNext h late)))
+visibleAt h late = not (blank (resting h (lateAtStart h late)))
 
 -- Without HMOVE it goes on so, and pulses come from the visible clocks alone.
 pub resting-timing :
     (w : Write) (h : ℕ) (late : Bool) → hits w HMOVE ≡ false →
-    timingNext w (resting h late) ≡ resting ((h + 1) % 228) (lateNext h late)
+    timingNext w (resting h late) ≡ resting ((h + 1) % 228) (lateAtStart h late)
 unfolding timingNext
 resting-timing w h late e = rw e
 

@@ -7,9 +7,15 @@ use borrow.Author.Tests.{lt-ltb, le-ltb}
 use lib.IntN.{ℤ, pos, negsuc, subℕ, _+ℤ_}
 use Rattle.laws.proofs.Split.{split}
 use Rattle.tia.specs.Signed.{signed, mod160}
-use Rattle.tia.specs.Object.{compareValue}
 use Rattle.tia.specs.Demand3.{turned}
-use Rattle.tia.proofs.MotionLaws.{compare-is-signed}
+use Rattle.tia.proofs.MotionLaws.{endSlot, compare-is-remainder}
+
+-- A position turned by nothing, and once around.
+pub not-turned : {p : ℕ} → p < 160 → p ≡ (p + 0) % 160
+not-turned h = omega arith
+
+pub once-around : {p : ℕ} → p < 160 → (p + 160) % 160 ≡ p
+once-around h = omega arith
 
 -- The remainder is below 160.
 pub mod-below : (z : ℤ) → mod160 z < 160
@@ -48,11 +54,12 @@ turned-twice p a b =
     turned-by (turned p a) b
     ∙ rw (turned-by p a) (omega (arith, mod-add a b)) ∙ sym (turned-by p (a +ℤ b))
 
--- A move adds the compared value and the 152 pulses of a line with a late blank.
-pub turned-signed : (p m : ℕ) → m ≤ 15 → turned p (signed m) ≡ (p + compareValue m + 152) % 160
+-- A move adds the slot that ends it and the 152 pulses of a line with a late blank.
+pub turned-signed : (p m : ℕ) → m ≤ 15 → turned p (signed m) ≡ (p + endSlot m + 152) % 160
 unfolding mod160
 turned-signed p m h =
-    turned-by p (signed m) ∙ summed (mod160 (signed m)) (mod-below (signed m)) (ap mod160 (compare-is-signed m h) ∙ mod-add (pos 8) (signed m))
+    turned-by p (signed m)
+    ∙ summed (mod160 (signed m)) (mod-below (signed m)) (ap mod160 (sym (compare-is-remainder m h)) ∙ mod-add (pos 8) (signed m))
   where
-    summed : (n : ℕ) → n < 160 → compareValue m % 160 ≡ (8 % 160 + n) % 160 → (p + n) % 160 ≡ (p + compareValue m + 152) % 160
+    summed : (n : ℕ) → n < 160 → endSlot m % 160 ≡ (8 % 160 + n) % 160 → (p + n) % 160 ≡ (p + endSlot m + 152) % 160
     summed n below e = omega arith

@@ -13,7 +13,7 @@ use Rattle.tia.specs.State.{startState}
 use Rattle.tia.specs.Timing.{noMotion}
 use Rattle.tia.specs.Object.{columns}
 use Rattle.tia.specs.Clock.{clockOf}
-use Rattle.tia.specs.FirstLit.{firstLitOf, columnAnswer}
+use Rattle.tia.specs.FirstLit.{firstLitAnswer}
 use Rattle.tia.specs.Answers.{lineAnswer, lineBuffer}
 use Rattle.tia.specs.Movable.{P0, M0, BL, numberOf}
 
@@ -44,8 +44,8 @@ lastLine s (l ∷ m ∷ ls) = lastLine (lineAnswer s l columns .state) (m ∷ ls
 -- The first lit column of an object in it; 160, past the last column, where none is lit.
 unfoldable pub firstLit : (object : ℕ) → List (List ℕ) → ℕ
 firstLit object ls =
-    let answer = columnAnswer (firstLitOf (lastLine startState ls) object) in
-    cond (answer .lit) (answer .column) columns
+    let answer = firstLitAnswer (lastLine startState ls) object in
+    cond (eqb (answer .case) 0) (answer .column) columns
 
 -- Its blank columns.
 unfoldable pub countBlank : List ℕ → ℕ

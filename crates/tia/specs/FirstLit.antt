@@ -1,6 +1,6 @@
 -- The first lit column of an object in a line's answer bytes.
 use Prim.Native.Nat.{ℕ, suc}
-use mathlib.Core.Bool.{Bool, cond, true, false, _&&_, not}
+use mathlib.Core.Bool.{Bool, cond, _&&_, not}
 use mathlib.Core.List.{List, [], _∷_}
 use lib.Dec.{eqb, ltb}
 use lib.ListN.{length, getD}
@@ -31,15 +31,18 @@ firstLitOf buffer object =
     cond (not (eqb (length buffer) columns)) (Refused forBufferLength)
     (cond (ltb 5 object) (Refused forNoSuch) (firstFrom object 0 buffer))
 
--- The paper's numbers for each case: the refusal number (0: not refused), the index of the record at fault, whether a column
--- is lit, and which.
+-- The paper's numbers for each case: the case (0 a column, 1 none, 2 refused), the refusal number (0: not refused), the index of
+-- the record at fault, and the column. Different answers have different numbers (`same-column`).
 pub record ColumnAnswer : Type 0 where
+  pub case : ℕ
   pub number : ℕ
   pub index : ℕ
-  pub lit : Bool
   pub column : ℕ
 
 abbrev pub columnAnswer : FirstLit → ColumnAnswer
-columnAnswer (Column x) = record { number = 0; index = 0; lit = true; column = x }
-columnAnswer Unlit = record { number = 0; index = 0; lit = false; column = 0 }
-columnAnswer (Refused n) = record { number = n; index = 0; lit = false; column = 0 }
+columnAnswer (Column x) = record { case = 0; number = 0; index = 0; column = x }
+columnAnswer Unlit = record { case = 1; number = 0; index = 0; column = 0 }
+columnAnswer (Refused n) = record { case = 2; number = n; index = 0; column = 0 }
+
+abbrev pub firstLitAnswer : List ℕ → (object : ℕ) → ColumnAnswer
+firstLitAnswer buffer object = columnAnswer (firstLitOf buffer object)

@@ -20,3 +20,4 @@ pub mod Run
 pub mod Demand3
 pub mod Cases
 pub mod RunCases
+pub mod PictureCases

@@ -1,17 +1,18 @@
 -- What is said of the line call's refusals and of the first lit column: the rows of the table, the first bad record, the
 -- smallest column.
-use Prim.Native.Nat.{ℕ, zero, suc, _+_, _%_, _≤_, _<_}
+use Prim.Native.Nat.{ℕ, zero, suc, _+_, _≤_, _<_}
 use mathlib.Core.Path.{_≡_}
-use mathlib.Core.Logic.{_⊎_, _↔_}
+use mathlib.Core.Logic.{_↔_}
 use mathlib.Core.Bool.{true, false}
-use mathlib.Core.List.{List, [], _∷_}
+use mathlib.Core.List.{List, [], _∷_, _++_}
 use lib.ListN.{length}
 use Rattle.laws.specs.Refusal.{Row, row, GivenInOrder}
 use Rattle.tia.specs.declared.first_lit.FirstLit.{FirstLit}
 use Rattle.tia.specs.declared.first_lit.FirstLit.the-variants.{Column, Unlit, Refused}
 use Rattle.tia.specs.declared.state.State.{State}
 use Rattle.tia.specs.Write.{known}
-use Rattle.laws.specs.Numbers.{forLineClock, forBufferLength, forListLength, forClockOver, forClockOrder, forUnknownRegister, forNoSuch}
+use Rattle.laws.specs.Numbers.{BadLength, forLineClock, forBufferLength, forListLength, forClockOver, forClockOrder, forUnknownRegister, forNoSuch}
+use Rattle.tia.specs.Object.{columns}
 use Rattle.tia.specs.WriteList.{TimedWrite, recordsOf}
 use Rattle.tia.specs.FirstLit.{showsAt}
 use Rattle.tia.specs.Answers.{badStateRow}
@@ -38,21 +39,24 @@ IndexGiven rs number index = (number ≤ 4 → index ≡ 0) × ((i : ℕ) → 4 
 abbrev pub listRow : ℕ → List ℕ → Row
 listRow n ws = row n ((i : ℕ) × FirstBad 0 (recordsOf ws) n i)
 
--- Rows 1 to 7 for a line call with a buffer of so much room.
-abbrev pub lineRows : State → List ℕ → (room : ℕ) → List {1} Row
-lineRows s ws room =
+-- Rows 1 to 3 for a line call with a buffer of so much room, and 5 to 7 for its list.
+abbrev pub callRows : State → (room : ℕ) → List {1} Row
+callRows s room =
     badStateRow s
     ∷ row forLineClock (s .timing .h ≡ 0 → ⊥)
-    ∷ row forBufferLength (room ≡ 160 → ⊥)
-    ∷ row forListLength ((length ws % 3 ≡ 0 → ⊥) ⊎ (684 < length ws))
-    ∷ listRow forClockOver ws
-    ∷ listRow forClockOrder ws
-    ∷ listRow forUnknownRegister ws
+    ∷ row forBufferLength (room ≡ columns → ⊥)
     ∷ []
+
+abbrev pub listRows : List ℕ → List {1} Row
+listRows ws = listRow forClockOver ws ∷ listRow forClockOrder ws ∷ listRow forUnknownRegister ws ∷ []
+
+-- Rows 1 to 7 for a line call.
+abbrev pub lineRows : State → List ℕ → (room : ℕ) → List {1} Row
+lineRows s ws room = callRows s room ++ (row forListLength (BadLength (length ws)) ∷ listRows ws)
 
 -- Rows 3 and 10 for the first lit column.
 abbrev pub firstLitRows : List ℕ → (object : ℕ) → List {1} Row
-firstLitRows buffer object = row forBufferLength (length buffer ≡ 160 → ⊥) ∷ row forNoSuch (5 < object) ∷ []
+firstLitRows buffer object = row forBufferLength (length buffer ≡ columns → ⊥) ∷ row forNoSuch (5 < object) ∷ []
 
 -- No column below x shows the object.
 abbrev pub DarkBelow : List ℕ → (object x : ℕ) → Type 0

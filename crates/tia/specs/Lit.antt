@@ -31,8 +31,11 @@ playerLit g p = drawnFrom g (p .size) (p .body .age)
 unfoldable pub widthOf : ℕ → ℕ
 widthOf code = cond (eqb code 0) 1 (cond (eqb code 1) 2 (cond (eqb code 2) 4 8))
 
+abbrev pub drawnWide : (enabled : Bool) (code age : ℕ) → Bool
+drawnWide enabled code age = enabled && (leb 4 age && leb age (3 + widthOf code))
+
 unfoldable pub missileLit : Bool → ℕ → Object → Bool
-missileLit enabled code o = enabled && (leb 4 (o .age) && leb (o .age) (3 + widthOf code))
+missileLit enabled code o = drawnWide enabled code (o .age)
 
 -- Ball: old enable with VDELBL; its width is that of CTRLPF bits 4-5.
 unfoldable pub ballLit : Enable → ℕ → Object → Bool

@@ -2,6 +2,7 @@
 use Prim.Native.Nat.{ℕ, _+_, _/_, _%_}
 use mathlib.Core.Bool.{Bool, cond, _&&_, _||_, not}
 use lib.Dec.{eqb, ltb}
+use lib.IntN.{ℤ, pos, _+ℤ_}
 use Rattle.counter.specs.Count.{valueOf}
 use Rattle.tia.specs.declared.object.Moved.{Moved}
 use Rattle.tia.specs.declared.object.Object.{Object}
@@ -10,6 +11,7 @@ use Rattle.tia.specs.declared.timing.Tick.{Tick}
 use Rattle.tia.specs.declared.write.Write.{Write}
 use Rattle.tia.specs.Write.{HMBL, HMCLR, HMOVE, RESBL, hits, byteOf}
 use Rattle.tia.specs.Registers.{upper}
+use Rattle.tia.specs.Signed.{signed, isNumber}
 
 -- Positions run over the 160 columns of a line.
 abbrev pub columns : ℕ
@@ -34,11 +36,11 @@ objectWritten hm w o =
     }
 
 -- 4. .. each live object compares the slot with 8 plus its signed motion value (half bytes 8 to 15 mean -8 to -1).
-abbrev pub compareValue : ℕ → ℕ
-compareValue m = (m + 8) % 16
+abbrev pub compareValue : ℕ → ℤ
+compareValue m = pos 8 +ℤ signed m
 
 abbrev pub equalSlot : Tick → Object → Bool
-equalSlot k o = eqb (k .slot) (compareValue (o .motion))
+equalSlot k o = isNumber (k .slot) (compareValue (o .motion))
 
 -- Equal: its flag falls, no pulse. Otherwise it gets an extra pulse.
 abbrev pub extraPulse : Tick → Object → Bool

@@ -1,42 +1,55 @@
 -- A run of lines: a list of line calls, each from the state that the call before handed back.
-use Prim.Native.Nat.{ℕ}
+use Prim.Native.Nat.{ℕ, _^_}
 use mathlib.Core.Path.{_≡_}
 use mathlib.Core.Bool.{Bool, true, false, cond, _&&_, _||_, not}
 use mathlib.Core.List.{List, [], _∷_}
 use lib.Dec.{eqb, ltb, leb}
 use lib.IntN.{ℤ, pos, _+ℤ_}
+use lib.ListN.{length}
 use Rattle.tia.specs.declared.line_call.LineAnswer.{LineAnswer}
 use Rattle.tia.specs.declared.state.State.{State}
 use Rattle.tia.specs.Write.{HMBL, HMCLR, HMOVE, HMP0}
 use Rattle.tia.specs.Registers.{upper}
-use Rattle.tia.specs.State.{isByte}
+use Rattle.tia.specs.State.{isByte, badState}
 use Rattle.tia.specs.Signed.{signed}
 use Rattle.tia.specs.WriteList.{TimedWrite, recordsOf}
-use Rattle.tia.specs.Answers.{LinePromise}
+use Rattle.tia.specs.Answers.{lineAnswer, lineBuffer, LinePromise}
 use Rattle.tia.specs.Movable.{Movable, strobeOf, motionRegisterOf, motionOf}
 
--- A line call's list, which is of bytes, and the buffer that is lent to it.
+-- What a slice of bytes can be: bytes, fewer than 2 ^ 63.
 abbrev pub allBytes : List ℕ → Bool
 allBytes [] = true
 allBytes (v ∷ vs) = isByte v && allBytes vs
 
+abbrev pub isSlice : List ℕ → Bool
+isSlice vs = allBytes vs && ltb (length vs) (2 ^ 63)
+
+-- A line call's list, and the buffer that is lent to it.
 pub record Call : Type 0 where
   pub writes : List ℕ
   pub buffer : List ℕ
-  pub bytes : allBytes writes ≡ true
+  pub writes-slice : isSlice writes ≡ true
+  pub buffer-slice : isSlice buffer ≡ true
 
 -- What it returns: its answer, and the buffer.
 pub record Returned : Type 0 where
   pub answer : LineAnswer
   pub buffer : List ℕ
 
--- A function from states and calls, and that it meets the line call's promise.
+-- A function from states and calls, and that it meets the line call's promise. Nothing is asked of it for a bad state, which no run
+-- comes to.
 abbrev pub LineCall : Type 0
 LineCall = State → Call → Returned
 
 abbrev pub Meets : LineCall → Type 0
 Meets line =
-    (s : State) (c : Call) → LinePromise s (c .writes) (c .buffer) (line s c .answer) (line s c .buffer)
+    (s : State) (c : Call) → badState s ≡ false →
+    LinePromise s (c .writes) (c .buffer) (line s c .answer) (line s c .buffer)
+
+-- The line call as it is defined.
+abbrev pub definedLine : LineCall
+definedLine s c =
+    record { answer = lineAnswer s (c .writes) (length (c .buffer)); buffer = lineBuffer s (c .writes) (c .buffer) }
 
 -- The state after a run: each call, refused or not, gets the state that the call before handed back.
 abbrev pub stateAfter : LineCall → State → List Call → State
@@ -88,10 +101,12 @@ hmoveClocks (r ∷ rs) =
     let later = hmoveClocks rs in
     cond (eqb (r .address) HMOVE) (r .clock ∷ later) later
 
--- A motion register or HMCLR written after clock c, up to clock 75.
+-- A motion register or HMCLR, and such a register written after clock c, up to clock 75.
+abbrev pub isMotion : (address : ℕ) → Bool
+isMotion a = (leb HMP0 a && leb a HMBL) || eqb a HMCLR
+
 abbrev pub disturbs : ℕ → TimedWrite → Bool
-disturbs c r =
-    ((leb HMP0 (r .address) && leb (r .address) HMBL) || eqb (r .address) HMCLR) && (ltb c (r .clock) && leb (r .clock) 75)
+disturbs c r = isMotion (r .address) && (ltb c (r .clock) && leb (r .clock) 75)
 
 -- A line has no HMOVE, or one at clocks 0 to 15 with no motion register or HMCLR written after it up to clock 75.
 unfoldable pub movesWithin : List ℕ → List TimedWrite → Bool

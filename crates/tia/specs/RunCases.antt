@@ -1,27 +1,20 @@
 -- Runs that meet demand 3's premises, and runs that show that each premise is needed, with what comes of them.
-use Prim.Native.Nat.{ℕ, zero, suc}
+use Prim.Native.Nat.{ℕ}
 use mathlib.Core.Path.{_≡_, refl}
-use mathlib.Core.Bool.{Bool, Bool·beq, true, false, cond}
+use mathlib.Core.Bool.{Bool, true, false}
 use mathlib.Core.List.{List, [], _∷_}
 use lib.IntN.{ℤ, pos, negsuc}
 use lib.ListN.{length, replicate}
 use Rattle.tia.specs.declared.state.State.{State}
-use Rattle.tia.specs.Write.{GRP0, GRP1, HMCLR, HMM0, HMOVE, HMP0, RESM0}
-use Rattle.tia.specs.State.{startObject, startPlayer, startNusiz, startGraphic, startEnable, startPlayfield, noLatches}
+use Rattle.tia.specs.Write.{HMCLR, HMM0, HMOVE, RESM0}
 use Rattle.tia.specs.Object.{columns}
-use Rattle.tia.specs.FirstLit.{showsAt}
-use Rattle.tia.specs.Answers.{lineAnswer, lineBuffer}
-use Rattle.tia.specs.Movable.{Movable, Drawing, player, numberOf, positionOf, drawingOf}
-use Rattle.tia.specs.Run.{allBytes, Call, LineCall, stateAfter, acceptedLists, sumOf, allowed}
+use Rattle.tia.specs.Movable.{Movable, positionOf}
+use Rattle.tia.specs.Run.{isSlice, Call, definedLine, stateAfter, acceptedLists, sumOf, allowed}
 use Rattle.tia.specs.Demand3.{turned}
 
--- The line call as it is defined, and a call with a buffer of 160 bytes.
-abbrev pub definedLine : LineCall
-definedLine s c =
-    record { answer = lineAnswer s (c .writes) (length (c .buffer)); buffer = lineBuffer s (c .writes) (c .buffer) }
-
-abbrev pub calling : (writes : List ℕ) → allBytes writes ≡ true → Call
-calling writes bytes = record { writes = writes; buffer = replicate columns 0; bytes = bytes }
+-- A call with a buffer of 160 bytes.
+abbrev pub calling : (writes : List ℕ) → isSlice writes ≡ true → Call
+calling writes slice = record { writes = writes; buffer = replicate columns 0; writes-slice = slice; buffer-slice = refl }
 
 -- What comes of a run: how many lines are accepted, whether the premises hold, the sum, the position that demand 3 claims and
 -- the position itself.
@@ -113,76 +106,3 @@ runCases =
     ∷ broken (rewrittenAt72 ∷ []) 1 (pos 7) 7 8
     ∷ broken (ownStrobe ∷ []) 1 (pos 0) 0 127
     ∷ []
-
--- The picture of player 0 with three copies and VDELP0: its graphics are written and restored during the run.
-abbrev pub threeCopies : Drawing
-threeCopies = player 3 (record { reflected = false; new = 0xA5; old = 0x93; delayed = true })
-
-unfoldable pub playerState : State
-playerState =
-    record {
-      timing = record { h = 0; slot = 16; late = false };
-      objects =
-          record {
-            p0 = record { body = record { position = 50; age = 64; motion = 0; live = false }; size = 1 };
-            p1 = startPlayer;
-            m0 = startObject;
-            m1 = startObject;
-            bl = startObject;
-          };
-      registers =
-          record {
-            nusiz0 = record { copies = 3; width = 0 };
-            nusiz1 = startNusiz;
-            playfield = startPlayfield;
-            graphic0 = record { reflected = false; new = 0xA5; old = 0x93; delayed = true };
-            graphic1 = startGraphic;
-            enam0 = false;
-            enam1 = false;
-            enabl = startEnable;
-          };
-      latches = noLatches;
-    }
-
-abbrev pub playerCalls : List Call
-playerCalls =
-    calling (0 ∷ HMP0 ∷ 0x70 ∷ 3 ∷ HMOVE ∷ 0 ∷ 10 ∷ GRP0 ∷ 0xFF ∷ 90 ∷ GRP1 ∷ 0x12 ∷ []) refl
-    ∷ calling (0 ∷ GRP0 ∷ 0x93 ∷ 100 ∷ GRP1 ∷ 0 ∷ 110 ∷ GRP0 ∷ 0xA5 ∷ 120 ∷ HMP0 ∷ 0xF0 ∷ []) refl
-    ∷ calling (12 ∷ HMOVE ∷ 0 ∷ []) refl
-    ∷ []
-
--- What comes of it: whether the premises hold, the sum, the drawing registers before and after the run, the lit columns of the
--- second line, and in how many columns the last line shows what the second showed, turned left by the sum.
-pub record PictureOutcome : Type 0 where
-  pub premises : Bool
-  pub sum : ℤ
-  pub before : Drawing
-  pub after : Drawing
-  pub lit : ℕ
-  pub agreeing : ℕ
-
-unfoldable pub countBelow : ℕ → (ℕ → Bool) → ℕ
-countBelow zero test = 0
-countBelow (suc n) test =
-    let fewer = countBelow n test in
-    cond (test n) (suc fewer) fewer
-
-unfoldable pub pictureOutcome : Movable → State → List Call → PictureOutcome
-pictureOutcome o s calls =
-    let quiet = calling [] refl in
-    let two = definedLine (definedLine s quiet .answer .state) quiet in
-    let lists = acceptedLists definedLine (two .answer .state) calls in
-    let end = stateAfter definedLine (two .answer .state) calls in
-    let four = definedLine (definedLine end quiet .answer .state) quiet in
-    let sum = sumOf o (two .answer .state) lists in
-    record {
-      premises = allowed o lists;
-      sum = sum;
-      before = drawingOf o (s .registers);
-      after = drawingOf o (end .registers);
-      lit = countBelow columns (showsAt (numberOf o) (two .buffer));
-      agreeing = countBelow columns (λ x. Bool·beq (showsAt (numberOf o) (four .buffer) x) (showsAt (numberOf o) (two .buffer) (turned x sum)));
-    }
-
-abbrev pub pictureCase : PictureOutcome
-pictureCase = record { premises = true; sum = pos 6; before = threeCopies; after = threeCopies; lit = 12; agreeing = columns }

@@ -22,8 +22,8 @@ abbrev pub noMotion : ℕ
 noMotion = 16
 
 -- 1. If h = 0 the late flag falls. (The late flag is document 01's word: it makes the horizontal blank longer.)
-abbrev pub lateAtStart : Timing → Bool
-lateAtStart t = not (eqb (t .h) 0) && t .late
+abbrev pub lateAtStart : (h : ℕ) (late : Bool) → Bool
+lateAtStart h late = not (eqb h 0) && late
 
 -- 2. HMOVE sets the slot to 0; at clocks 0 to 67 it raises the late flag.
 abbrev pub timingWritten : Write → Timing → Timing
@@ -31,7 +31,7 @@ timingWritten w t =
     record {
       h = t .h;
       slot = cond (hits w HMOVE) 0 (t .slot);
-      late = (hits w HMOVE && ltb (t .h) blankClocks) || lateAtStart t;
+      late = (hits w HMOVE && ltb (t .h) blankClocks) || lateAtStart (t .h) (t .late);
     }
 
 -- 3. Blank: h below 68, or below 76 with the late flag.

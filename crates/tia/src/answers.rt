@@ -38,10 +38,12 @@ fn refused(number: u8, state: State) -> ClockAnswer
 pub fn colour_clock(state: State, write: Write) -> ClockAnswer
     ensures { λ r. ⌜ r ≡ clockAnswer state write ⌝ }
 {
-    if state.is_bad() {
+    let bad = state.is_bad();
+    let unknown = write.unknown();
+    if bad {
         return refused(BAD_STATE, state);
     }
-    if write.unknown() {
+    if unknown {
         return refused(UNKNOWN_REGISTER, state);
     }
     let clocked = steps(state, write);

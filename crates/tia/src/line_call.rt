@@ -38,19 +38,19 @@ fn line_fault(state: State, writes: &[u8], room: usize) -> Fault
         };
     }
     let h = state.timing.h;
-    if h == 0 {
-        if room == LINE_BYTES {
-            return list_fault(writes);
-        }
+    if h != 0 {
+        return Fault {
+            number: LINE_CLOCK,
+            index: 0,
+        };
+    }
+    if room != LINE_BYTES {
         return Fault {
             number: BUFFER_LENGTH,
             index: 0,
         };
     }
-    Fault {
-        number: LINE_CLOCK,
-        index: 0,
-    }
+    list_fault(writes)
 }
 
 // The write due on a clock: that of the record at the cursor, if it has this clock.

@@ -14,8 +14,10 @@ use crate::registers::Registers;
 use crate::state::Objects;
 use crate::timing::BLANK;
 
-// The age at which a player lights its first column.
+// The ages at which a player, and a missile or the ball, light their first column.
 const PLAYER_AGE: u8 = 5;
+
+const MISSILE_AGE: u8 = 4;
 
 // The answer bytes of the horizontal blank and of a blank column.
 const IN_BLANK: u8 = 128;
@@ -68,7 +70,7 @@ impl Object {
         ensures { λ r. ⌜ r ≡ missileLit enabled code self ⌝ }
     {
         let age = self.age;
-        enabled & ((4 <= age) & (age <= 3 + width_of(code)))
+        enabled & ((MISSILE_AGE <= age) & (age <= MISSILE_AGE - 1 + width_of(code)))
     }
 
     // Whether the ball is lit, by its new enable, or the old with VDELBL.

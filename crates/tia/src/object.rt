@@ -1,7 +1,9 @@
 // A movable object: its position, age and motion, and what a clock does to them.
 ghost use mathlib.Core.Bool.{cond, _||_};
 ghost use mathlib.Core.Path.{_≡_};
-ghost use Rattle.tia.specs.Object.{reached, older, starts, sizeOf, compareValue, equalSlot, extraPulse, objectWritten, slotPassed, pulsedIf, strobedIf, objectMoved, objectAfter, playerAfter, missileAfter, ballAfter};
+ghost use lib.IntN.{pos};
+ghost use Rattle.tia.specs.Object.{reached, older, starts, sizeOf, compareValue, equalSlot, extraPulse, objectWritten, slotPassed, pulsedIf};
+ghost use Rattle.tia.specs.Object.{strobedIf, objectMoved, objectAfter, playerAfter, missileAfter, ballAfter};
 use crate::choose::byte;
 use crate::timing::Tick;
 use crate::write::HMBL;
@@ -10,8 +12,10 @@ use crate::write::HMOVE;
 use crate::write::RESBL;
 use crate::write::Write;
 
-// The columns of a line.
+// The columns of a line, and the last of them.
 const COLUMNS: u8 = 160;
+
+pub(crate) const LAST_COLUMN: u8 = COLUMNS - 1;
 
 // The last of the sixteen motion slots.
 const LAST_SLOT: u8 = 15;
@@ -89,9 +93,9 @@ fn size_of(copies: u8) -> u8
 
 // The slot that ends an object's motion: 8 plus its signed motion value.
 fn compare_value(motion: u8) -> u8
-    ensures { λ r. ⌜ r ≡ compareValue motion ⌝ }
+    ensures { λ r. ⌜ compareValue motion ≡ pos r ⌝ }
 {
-    (motion % 16 + 8) % 16
+    if motion < 8 { motion + 8 } else { motion - 8 }
 }
 
 impl Object {

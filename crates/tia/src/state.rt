@@ -1,7 +1,9 @@
 // The chip's state, its start, and its check.
 ghost use mathlib.Core.Path.{_≡_};
-ghost use Rattle.tia.specs.State.{objectInRange, playerInRange, objectsInRange, anyLive, timingInRange, nusizInRange, registersInRange, badState, startObjects, startRegisters, startState};
+ghost use Rattle.tia.specs.State.{objectInRange, playerInRange, objectsInRange, anyLive, timingInRange, nusizInRange, registersInRange};
+ghost use Rattle.tia.specs.State.{badState, startObjects, startRegisters, startState};
 use crate::latches::Latches;
+use crate::object::LAST_COLUMN;
 use crate::object::NOT_DRAWN;
 use crate::object::Object;
 use crate::object::Player;
@@ -10,6 +12,7 @@ use crate::registers::Enable;
 use crate::registers::Graphic;
 use crate::registers::Nusiz;
 use crate::registers::Registers;
+use crate::timing::LAST_CLOCK;
 use crate::timing::NO_MOTION;
 use crate::timing::Timing;
 
@@ -124,7 +127,7 @@ impl Timing {
     {
         let h = self.h;
         let slot = self.slot;
-        (h <= 227) & (slot <= 16)
+        (h <= LAST_CLOCK) & (slot <= NO_MOTION)
     }
 }
 
@@ -136,7 +139,7 @@ impl Object {
         let position = self.position;
         let age = self.age;
         let motion = self.motion;
-        (position <= 159) & ((age <= 64) & (motion <= 15))
+        (position <= LAST_COLUMN) & ((age <= NOT_DRAWN) & (motion <= 15))
     }
 }
 

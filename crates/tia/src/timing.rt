@@ -6,8 +6,10 @@ use crate::choose::byte;
 use crate::write::HMOVE;
 use crate::write::Write;
 
-// The clocks of a line, those of its horizontal blank, and those of one that HMOVE makes longer.
+// The clocks of a line and the last of them; those of its horizontal blank, and those of one that HMOVE makes longer.
 pub(crate) const CLOCKS: u8 = 228;
+
+pub(crate) const LAST_CLOCK: u8 = CLOCKS - 1;
 
 pub(crate) const BLANK: u8 = 68;
 

@@ -7,6 +7,7 @@ use crate::refusal::CLOCK_ORDER;
 use crate::refusal::CLOCK_OVER;
 use crate::refusal::LIST_LENGTH;
 use crate::refusal::UNKNOWN_REGISTER;
+use crate::timing::LAST_CLOCK;
 use crate::write::is_known;
 
 // The longest list: 228 records.
@@ -22,7 +23,7 @@ pub(crate) struct Fault {
 fn record_fault(least: u8, clock: u8, address: u8) -> u8
     ensures { λ r. ⌜ r ≡ recordFault least clock address ⌝ }
 {
-    if clock > 227 {
+    if clock > LAST_CLOCK {
         return CLOCK_OVER;
     }
     if clock < least {

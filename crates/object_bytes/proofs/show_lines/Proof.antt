@@ -4,16 +4,17 @@ use borrow.Author.Needs.{needs}
 use Prim.Native.Nat.{_≤_, _-_}
 use mathlib.Core.Path.{_≡_, refl}
 use lib.ListN.{length}
-use Rattle.object_bytes.proofs.ShownLaws.{Shown, shown-none, shown-more}
+use Rattle.replay.proofs.ReplayLaws.{enough}
+use Rattle.object_bytes.proofs.ShownLaws.{Shown, shown-none, played-line, shown-more}
 use Rattle.object_bytes.proofs.show_lines.Statement.{statement}
 use Rattle.object_bytes.proofs.show_lines.Tie as tie
 
 abbrev Inv-loop : tie.InvT-loop
 Inv-loop tape bytes₀ state₀ place₀ step₀ bytes state place step =
-    (step ≤ 65537) × (length bytes ≡ 160) × Shown tape (65537 - step) state place bytes
+    (step ≤ enough) × (length bytes ≡ 160) × Shown tape (enough - step) state place bytes
 
 abbrev μ-loop : tie.MeasureT-loop
-μ-loop tape bytes₀ state₀ place₀ step₀ bytes state place step = 65537 - step
+μ-loop tape bytes₀ state₀ place₀ step₀ bytes state place step = enough - step
 
 loop-holds : tie.Need-loop-holds Inv-loop μ-loop
 loop-holds c = (search needs, refl, rw (c .start .ensures) (shown-none (c .before .before .args .tape .now) _ (search needs)))
@@ -30,11 +31,14 @@ enum-known-verdict c = search needs
 returns : tie.Need-returns Inv-loop μ-loop
 returns c = search needs
 
-slice-aggregate-write-all : tie.Need-slice-aggregate-write-all Inv-loop μ-loop
-slice-aggregate-write-all c = search needs
+slice-aggregate-emit : tie.Need-slice-aggregate-emit Inv-loop μ-loop
+slice-aggregate-emit c = search needs
 
-write-all-requires : tie.Need-write-all-requires Inv-loop μ-loop
-write-all-requires c κs = search needs
+emit-requires : tie.Need-emit-requires Inv-loop μ-loop
+emit-requires c κs =
+    let told = c .before .before in
+    let played = told .before .before .before in
+    played-line _ _ _ _ _ (played .play-line .result) _ (played .play-line .ensures) (told .verdict .given .1)
 
 add-step : tie.Need-add-step Inv-loop μ-loop
 add-step c = search needs
@@ -50,7 +54,7 @@ loop-again c =
     let inv = turn .before .loop .inv in (
       search needs,
       search needs,
-      shown-more _ _ _ _ _ _ _ _ (turn .loop-test .taken) (inv .1) (inv .2) (played .play-line .ensures) (told .verdict .given .1),
+      shown-more _ _ _ _ _ _ (played .play-line .result) _ (turn .loop-test .taken) (inv .1) (inv .2) (played .play-line .ensures) (told .verdict .given .1),
     )
 
 returns-2 : tie.Need-returns-2 Inv-loop μ-loop
@@ -68,8 +72,8 @@ show-lines-spec =
     play-line-requires
     enum-known-verdict
     returns
-    slice-aggregate-write-all
-    write-all-requires
+    slice-aggregate-emit
+    emit-requires
     add-step
     loop-less
     loop-again

@@ -26,16 +26,19 @@ enum-told-2 c = search needs
 returns : tie.Need-returns
 returns c =
     let told = c .before .before .before in
-    (found-text (told .before .before .first-lit-column .ensures) (told .found .given .1) (c .put-decimal .ensures .0), search needs)
+    let searched = told .before .before .first-lit-column in
+    (found-text _ _ (searched .result) (searched .ensures) (told .found .given .1) (c .put-decimal .ensures .0), search needs)
 
 returns-2 : tie.Need-returns-2
 returns-2 c =
     let told = c .before .before in
-    (found-text (told .before .before .first-lit-column .ensures) (told .enum-told .given .1) (c .put-byte .ensures), search needs)
+    let searched = told .before .before .first-lit-column in
+    (found-text _ _ (searched .result) (searched .ensures) (told .enum-told .given .1) (c .put-byte .ensures), search needs)
 
 returns-3 : tie.Need-returns-3
 returns-3 c =
-    (found-text (c .before .before .first-lit-column .ensures) (c .enum-told2 .given .1) (put-none _ _), search needs)
+    let searched = c .before .before .first-lit-column in
+    (found-text _ _ (searched .result) (searched .ensures) (c .enum-told2 .given .1) (put-none _ _), search needs)
 
 pub put-column-spec : {M : Type 1} → statement M
 put-column-spec =

@@ -12,7 +12,8 @@ use Rattle.listing_text.proofs.line_text.put_columns.Statement.{stateme
 use Rattle.listing_text.proofs.line_text.put_columns.Tie as tie
 
 abbrev Inv-loop : tie.InvT-loop
-Inv-loop out₀ at bytes next₀ object₀ out next object = (object ≤ 6) × (Put (spaced (λ o. columnText (firstLitOf bytes o)) object) at out₀ next out × (next ≤ at + 4 * object))
+Inv-loop out₀ at bytes next₀ object₀ out next object =
+    (object ≤ 6) × (Put (spaced (λ o. columnText (firstLitOf bytes o)) object) at out₀ next out × (next ≤ at + 4 * object))
 
 abbrev μ-loop : tie.MeasureT-loop
 μ-loop out₀ at bytes next₀ object₀ out next object = 6 - object

@@ -21,21 +21,24 @@ returns c =
     let told = c .before .before .before .before in
     let played = told .before .before .before .before in
     let args = played .before .before .before .args in
-    step-row (args .state) (args .tape .now) (args .place) (args .line) _ _ (played .play-line .ensures) _ (told .verdict .given .1) (c .row-text .ensures)
+    step-row (args .state) (args .tape .now) (args .place) (args .line) (played .play-line .result) _ (played .play-line .ensures) _ _ _
+    (told .verdict .given .1) (c .row-text .ensures)
 
 returns-2 : tie.Need-returns-2
 returns-2 c =
     let told = c .before .before in
     let played = told .before .before .before .before in
     let args = played .before .before .before .args in
-    step-ended (args .state) (args .tape .now) (args .place) (args .line) _ _ (played .play-line .ensures) (told .enum-told .given .1) (c .latches-text .ensures)
+    step-ended (args .state) (args .tape .now) (args .place) (args .line) (played .play-line .result) _ (played .play-line .ensures) _ _
+    (told .enum-told .given .1) (c .latches-text .ensures)
 
 returns-3 : tie.Need-returns-3
 returns-3 c =
     let told = c .before .before .before in
     let played = told .before .before .before .before in
     let args = played .before .before .before .args in
-    step-refused (args .state) (args .tape .now) (args .place) (args .line) _ _ (played .play-line .ensures) _ _ (told .verdict2 .given .1) (c .refused-text .ensures)
+    step-refused (args .state) (args .tape .now) (args .place) (args .line) (played .play-line .result) _ (played .play-line .ensures) _ _
+    _ _ (told .verdict2 .given .1) (c .refused-text .ensures)
 
 pub list-line-spec : {M : Type 1} → statement M
 list-line-spec =

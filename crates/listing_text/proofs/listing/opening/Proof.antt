@@ -6,12 +6,14 @@ use Rattle.listing_text.proofs.listing.opening.Tie as tie
 returns : tie.Need-returns
 returns c =
     let tested = c .before .before in
-    opens-long (tested .before .before .before .args .tape .now) _ (tested .before .start .ensures) (tested .if1 .taken) (c .too-long-text .ensures)
+    let start = tested .before in
+    opens-long (start .before .before .args .tape .now) _ (start .start .ensures) (tested .if1 .taken) (c .too-long-text .ensures)
 
 returns-2 : tie.Need-returns-2
 returns-2 c =
     let tested = c .before .before in
-    opens (tested .before .before .before .args .tape .now) _ (tested .before .start .ensures) (tested .if1 .left) (c .heading-text .ensures)
+    let start = tested .before in
+    opens (start .before .before .args .tape .now) _ (start .start .ensures) (tested .if1 .left) (c .heading-text .ensures)
 
 pub opening-spec : {M : Type 1} → statement M
 opening-spec =

@@ -1,4 +1,5 @@
 -- `play_line` meets its contract.
+use Rattle.tape.proofs.ReadingLaws.{same-place}
 use Rattle.replay.proofs.PlayLaws.{play-line, play-ended, play-refused}
 use borrow.Author.Needs.{needs}
 use Rattle.replay.proofs.play.play_line.Statement.{statement}
@@ -21,13 +22,34 @@ returns c =
     let lined = c .before .before .before .before in
     let stretched = lined .before .before in
     let told = stretched .before .before in
-    play-line _ _ _ _ _ (told .before .before .read-at .ensures) _ _ (told .found .given .1) _ (stretched .stretch-at .ensures .0) _ _ (lined .line .ensures) _ (c .line-verdict .ensures)
+    let read = told .before .before .read-at in
+    play-line
+    _
+    _
+    _
+    _
+    (read .result)
+    (same-place (read .ensures))
+    _
+    _
+    (told .found .given .1)
+    _
+    (stretched .stretch-at .ensures .0)
+    _
+    _
+    (lined .line .ensures)
+    _
+    (c .line-verdict .ensures)
 
 returns-2 : tie.Need-returns-2
-returns-2 c = play-ended _ _ _ _ _ (c .before .before .read-at .ensures) (c .enum-told .given .1)
+returns-2 c =
+    let read = c .before .before .read-at in
+    play-ended _ _ _ _ (read .result) (same-place (read .ensures)) (c .enum-told .given .1)
 
 returns-3 : tie.Need-returns-3
-returns-3 c = play-refused _ _ _ _ _ (c .before .before .before .read-at .ensures) _ (c .before .found2 .given .1)
+returns-3 c =
+    let read = c .before .before .before .read-at in
+    play-refused _ _ _ _ (read .result) (same-place (read .ensures)) _ (c .before .found2 .given .1)
 
 pub play-line-spec : {M : Type 1} → statement M
 play-line-spec =

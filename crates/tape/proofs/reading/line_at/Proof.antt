@@ -23,12 +23,16 @@ shared-slice-read-big-endian-2 c = search needs
 returns-2 : tie.Need-returns-2
 returns-2 c =
     let field = c .before .before in
-    sym (line-length-bad _ _ (field .before .before .before .if1 .left) _ (field .big-endian .ensures) (sym (c .before .is-bad-length .ensures) ∙ c .if2 .taken))
+    let enough = field .before .before .before .if1 .left in
+    let bad = sym (c .before .is-bad-length .ensures) ∙ c .if2 .taken in
+    sym (line-length-bad _ _ enough _ (field .big-endian .ensures) bad)
 
 returns-3 : tie.Need-returns-3
 returns-3 c =
     let field = c .before .before .before in
-    sym (line-cut _ _ (field .before .before .before .if1 .left) _ (field .big-endian .ensures) (sym (c .before .before .is-bad-length .ensures) ∙ c .before .if2 .left) (c .if3 .taken))
+    let enough = field .before .before .before .if1 .left in
+    let good = sym (c .before .before .is-bad-length .ensures) ∙ c .before .if2 .left in
+    sym (line-cut _ _ enough _ (field .big-endian .ensures) good (c .if3 .taken))
 
 add-start : tie.Need-add-start
 add-start c = search needs
@@ -39,7 +43,9 @@ add-t6 c = search needs
 returns-4 : tie.Need-returns-4
 returns-4 c =
     let field = c .before .before .before in
-    sym (line-whole _ _ (field .before .before .before .if1 .left) _ (field .big-endian .ensures) (sym (c .before .before .is-bad-length .ensures) ∙ c .before .if2 .left) (c .if3 .left))
+    let enough = field .before .before .before .if1 .left in
+    let good = sym (c .before .before .is-bad-length .ensures) ∙ c .before .if2 .left in
+    sym (line-whole _ _ enough _ (field .big-endian .ensures) good (c .if3 .left))
 
 pub line-at-spec : {M : Type 1} → statement M
 line-at-spec =

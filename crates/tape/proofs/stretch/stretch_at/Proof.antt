@@ -10,7 +10,7 @@ use Rattle.tape.specs.declared.reading.Place.{Place}
 use Rattle.tape.specs.declared.reading.Place.the-variants.{Line, Ended, Refused}
 use Rattle.tape.specs.Reading.{readAt, stretchOf, stretchAt, startOf, startAt}
 use Rattle.tape.specs.ReadingRows.{LineThere}
-use Rattle.tape.proofs.ReadingLaws.{line-there}
+use Rattle.tape.proofs.ReadingLaws.{same-place, line-there}
 use Rattle.tape.proofs.reading.Place as declared
 use Rattle.tape.proofs.stretch.stretch_at.Statement.{statement}
 use Rattle.tape.proofs.stretch.stretch_at.Tie as tie
@@ -39,7 +39,9 @@ module _ (tape : List ℕ) (place : ℕ) (found : Place) (e : found ≡ readAt t
   unfolding stretchAt startAt
   held start end line = (rw (← e, line), rw (← e, line))
 
-there : (tape : List ℕ) (place : ℕ) {found : Place} → found ≡ readAt tape place → (start end : ℕ) → found ≡ Line start end → LineThere tape place start end
+there :
+    (tape : List ℕ) (place : ℕ) {found : Place} → found ≡ readAt tape place → (start end : ℕ) → found ≡ Line start end →
+    LineThere tape place start end
 there tape place e start end line = line-there tape place start end (sym e ∙ line)
 
 read-at-requires : tie.Need-read-at-requires
@@ -58,23 +60,23 @@ part-result-end : tie.Need-part-result-end
 part-result-end c = search needs
 
 returns : tie.Need-returns
-returns c = empty _ _ _ (c .before .before .read-at .ensures) _ _ (c .before .match .keys2)
+returns c = empty _ _ (c .before .before .read-at .result) (same-place (c .before .before .read-at .ensures)) _ _ (c .before .match .keys2)
 
 sub-result-2 : tie.Need-sub-result-2
 sub-result-2 c =
-    let line = there _ _ (c .before .before .before .read-at .ensures) _ _ (c .before .found .given .1) in
+    let line = there _ _ (same-place (c .before .before .before .read-at .ensures)) _ _ (c .before .found .given .1) in
     omega arith
 
 part-result-start-2 : tie.Need-part-result-start-2
 part-result-start-2 c =
-    let line = there _ _ (c .before .before .before .read-at .ensures) _ _ (c .before .found .given .1) in
+    let line = there _ _ (same-place (c .before .before .before .read-at .ensures)) _ _ (c .before .found .given .1) in
     omega arith
 
 part-result-end-2 : tie.Need-part-result-end-2
-part-result-end-2 c = there _ _ (c .before .before .before .read-at .ensures) _ _ (c .before .found .given .1) .inside
+part-result-end-2 c = there _ _ (same-place (c .before .before .before .read-at .ensures)) _ _ (c .before .found .given .1) .inside
 
 returns-2 : tie.Need-returns-2
-returns-2 c = held _ _ _ (c .before .before .before .before .read-at .ensures) _ _ _ _ (c .before .before .found .given .1)
+returns-2 c = held _ _ _ (same-place (c .before .before .before .before .read-at .ensures)) _ _ _ _ (c .before .before .found .given .1)
 
 pub stretch-at-spec : {M : Type 1} → statement M
 stretch-at-spec =

@@ -9,9 +9,6 @@ use Rattle.tia.proofs.clock.steps.Tie as tie
 lit-of-requires : tie.Need-lit-of-requires
 lit-of-requires c κs = rw (c .before .before .before .written .ensures) (omega arith)
 
-after-requires : tie.Need-after-requires
-after-requires c κs = search needs
-
 after-requires-2 : tie.Need-after-requires-2
 after-requires-2 c κs =
     let wrote = c .before .before .before .before .before .before in
@@ -42,7 +39,7 @@ steps-spec =
     (λ c κs. tt)
     lit-of-requires
     (λ c κs. tt)
-    after-requires
+    (λ c κs. tt)
     after-requires-2
     (λ c κs. tt)
     returns)

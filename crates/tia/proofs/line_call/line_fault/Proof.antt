@@ -9,25 +9,19 @@ returns c = sym (fault-bad _ _ _ (sym (c .before .is-bad .ensures) ∙ c .if1 .t
 
 returns-2 : tie.Need-returns-2
 returns-2 c =
-    let tested = c .before .before .before in
-    c .list-fault .ensures
-    ∙ sym
-    (fault-list
-    _
-    _
-    _
-    (sym (tested .before .is-bad .ensures) ∙ tested .if1 .left)
-    (c .before .before .if2 .taken)
-    (c .before .if3 .taken))
+    let tested = c .before in
+    sym (fault-clock _ _ _ (sym (tested .before .is-bad .ensures) ∙ tested .if1 .left) (c .if2 .taken))
 
 returns-3 : tie.Need-returns-3
 returns-3 c =
     let tested = c .before .before in
-    sym (fault-room _ _ _ (sym (tested .before .is-bad .ensures) ∙ tested .if1 .left) (c .before .if2 .taken) (c .if3 .left))
+    sym (fault-room _ _ _ (sym (tested .before .is-bad .ensures) ∙ tested .if1 .left) (c .before .if2 .left) (c .if3 .taken))
 
 returns-4 : tie.Need-returns-4
 returns-4 c =
-    sym (fault-clock _ _ _ (sym (c .before .before .is-bad .ensures) ∙ c .before .if1 .left) (c .if2 .left))
+    let tested = c .before .before .before in
+    let good = sym (tested .before .is-bad .ensures) ∙ tested .if1 .left in
+    c .list-fault .ensures ∙ sym (fault-list _ _ _ good (c .before .before .if2 .left) (c .before .if3 .left))
 
 pub line-fault-spec : {M : Type 1} → statement M
-line-fault-spec = tie.close (tie.spec (λ c κs. tt) returns (λ c κs. tt) returns-2 returns-3 returns-4)
+line-fault-spec = tie.close (tie.spec (λ c κs. tt) returns returns-2 returns-3 (λ c κs. tt) returns-4)

@@ -6,10 +6,11 @@ use Rattle.tia.proofs.registers.Registers.in_range.Tie as tie
 
 returns : tie.Need-returns
 returns c =
+    let given = c .before .before .before .before .before .args .self in
     rw (
       c .in-range2 .ensures,
       c .before .in-range .ensures,
-      registers-by-bytes (c .before .before .before .before .before .args .self) (omega arith) (omega arith) (omega arith) (omega arith) (omega arith) (omega arith) (omega arith),
+      registers-by-bytes given (omega arith) (omega arith) (omega arith) (omega arith) (omega arith) (omega arith) (omega arith),
     )
 
 pub in-range-spec : {M : Type 1} → statement M
