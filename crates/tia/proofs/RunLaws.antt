@@ -65,6 +65,22 @@ good-at ws s all good (suc n) = good-stays (stateAt (writesOf ws) s n) (writesOf
 pub line-good : (ws : List ℕ) (s : State) → allBytes ws ≡ true → badState s ≡ false → badState (lineOf s ws .state) ≡ false
 line-good ws s all good = rw (line-state s ws) (good-at ws s all good 228)
 
+-- So no run leaves the good states, whatever its calls are.
+call-good :
+    (line : LineCall) → Meets line → (s : State) (c : Call) → badState s ≡ false → badState (line s c .answer .state) ≡ false
+call-good line meets s c good = by-test (eqb (line s c .answer .number) 0) refl
+  where
+    by-test : (b : Bool) → eqb (line s c .answer .number) 0 ≡ b → badState (line s c .answer .state) ≡ false
+    by-test true t =
+        rw (accepted line meets s c good (eqb-true (line s c .answer .number) 0 t) .state)
+        (line-good (c .writes) s (slice-bytes (c .writes) (c .writes-slice)) good)
+    by-test false t = rw (refused-state line meets s c good t) good
+
+pub run-good :
+    (line : LineCall) → Meets line → (calls : List Call) (s : State) → badState s ≡ false → badState (stateAfter line s calls) ≡ false
+run-good line meets [] s good = good
+run-good line meets (c ∷ cs) s good = run-good line meets cs (line s c .answer .state) (call-good line meets s c good)
+
 -- What a good state shows of one object.
 body-in-range : (o : Movable) (os : Objects) → objectsInRange os ≡ true → objectInRange (bodyOf o os) ≡ true
 unfolding objectsInRange playerInRange
