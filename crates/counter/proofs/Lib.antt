@@ -4,3 +4,4 @@ pub mod CountLaws
 pub mod KindLaws
 pub mod AnswerLaws
 pub mod RefusalLaws
+pub mod NumberLaws

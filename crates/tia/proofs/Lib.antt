@@ -48,7 +48,7 @@ pub mod ReckonLaws
 pub mod PremiseLaws
 -- Turning by integers modulo 160.
 pub mod TurnLaws
--- So each accepted line of a run turns an object by its signed motion value.
+-- No run leaves the good states, and each accepted line of a run turns an object by its signed motion value.
 pub mod RunLaws
 -- What is drawn of an object that has passed position 0: a function of its position.
 pub mod DrawLaws

@@ -91,8 +91,9 @@ picturing p copies graphic calls sum lit =
 
 abbrev pub pictureCases : List PictureCase
 pictureCases =
-    -- Three copies and VDELP0: the graphics are written and restored during the run.
-    picturing 50 3
+    -- Three copies and VDELP0: the graphics are written and restored during the run. The first copy runs over the line's end, columns
+    -- 156 to 3, and is moved left by 6 to where it does not.
+    picturing 8 3
     (record { reflected = false; new = 0xA5; old = 0x93; delayed = true })
     (calling (0 ∷ HMP0 ∷ 0x70 ∷ 3 ∷ HMOVE ∷ 0 ∷ 10 ∷ GRP0 ∷ 0xFF ∷ 90 ∷ GRP1 ∷ 0x12 ∷ []) refl
     ∷ calling (0 ∷ GRP0 ∷ 0x93 ∷ 100 ∷ GRP1 ∷ 0 ∷ 110 ∷ GRP0 ∷ 0xA5 ∷ 120 ∷ HMP0 ∷ 0xF0 ∷ []) refl
@@ -100,10 +101,4 @@ pictureCases =
     ∷ [])
     (pos 6)
     12
-    -- A copy that runs over the line's end, columns 156 to 3, moved left by 7 to where it does not.
-    ∷ picturing 8 0
-    (record { reflected = false; new = 0xFF; old = 0; delayed = false })
-    (calling (0 ∷ HMP0 ∷ 0x70 ∷ 9 ∷ HMOVE ∷ 0 ∷ []) refl ∷ [])
-    (pos 7)
-    8
     ∷ []
