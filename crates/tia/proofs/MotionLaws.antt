@@ -2,7 +2,7 @@
 use mathlib.Core.Path.{_≡_, _∙_, sym, ap}
 use mathlib.Core.Logic.{⊎-elim}
 use mathlib.Core.Bool.{Bool, true, cond}
-use Prim.Native.Nat.{ℕ, _+_, _-_, _%_, _<_, _≤_}
+use Prim.Native.Nat.{ℕ, _+_, _%_, _<_, _≤_}
 use native.Mathlib.Omega.{arith}
 use borrow.Author.Tests.{lt-ltb, le-ltb}
 use lib.Dec.{eqb}
@@ -17,29 +17,27 @@ use Rattle.tia.specs.declared.object.Object.{Object}
 use Rattle.tia.specs.Signed.{signed}
 use Rattle.tia.specs.Object.{compareValue, counterValue, reached, pulsedIf}
 
--- A number plus a signed motion value, for values below 8 and from 8 on.
-pub plus-upward : (n m : ℕ) → m < 8 → pos n +ℤ signed m ≡ pos (m + n)
-unfolding signed
-plus-upward n m l = rw (lt-ltb m 8 l) (pos-+ℤ-pos n m ∙ ap pos (omega arith))
-
-pub plus-downward : (n m : ℕ) → 8 ≤ m → 8 ≤ n → n ≤ 16 → pos n +ℤ signed m ≡ pos (m - (16 - n))
-unfolding signed
-plus-downward n m l from to =
-    rw (le-ltb m 8 l)
-    (sym (+ℤ-assoc (pos n) (pos m) (negℤ (pos 16)))
-    ∙ ap (λ (k : ℤ). k -ℤ pos 16) (pos-+ℤ-pos n m ∙ ap pos (omega arith) ∙ sym (pos-+ℤ-pos (m - (16 - n)) 16))
-    ∙ +ℤ-negℤ-cancel (pos (m - (16 - n))) (pos 16))
-
--- The slot that ends a motion is, for a half byte, the remainder of 8 plus it modulo 16.
+-- The slot that ends a motion, 8 plus the signed motion value, is the remainder of 8 plus the motion value modulo 16.
 abbrev pub endSlot : ℕ → ℕ
-endSlot m = (m + 8) % 16
+endSlot m = (m % 16 + 8) % 16
 
-pub compare-is-remainder : (m : ℕ) → m ≤ 15 → compareValue m ≡ pos (endSlot m)
-compare-is-remainder m h =
+upward : (half : ℕ) → half < 8 → pos 8 +ℤ pos half ≡ pos ((half + 8) % 16)
+upward half l = pos-+ℤ-pos 8 half ∙ ap pos (omega arith)
+
+downward : (half : ℕ) → 8 ≤ half → half < 16 → pos 8 +ℤ (pos half -ℤ pos 16) ≡ pos ((half + 8) % 16)
+downward half l h =
+    sym (+ℤ-assoc (pos 8) (pos half) (negℤ (pos 16)))
+    ∙ ap (λ (k : ℤ). k -ℤ pos 16) (pos-+ℤ-pos 8 half ∙ ap pos (omega arith) ∙ sym (pos-+ℤ-pos ((half + 8) % 16) 16))
+    ∙ +ℤ-negℤ-cancel (pos ((half + 8) % 16)) (pos 16)
+
+pub compare-is-remainder : (m : ℕ) → compareValue m ≡ pos (endSlot m)
+unfolding signed
+compare-is-remainder m =
+    let half = m % 16 in
     ⊎-elim
-    (λ (l : m < 8). plus-upward 8 m l ∙ ap pos (omega arith))
-    (λ (l : 8 ≤ m). plus-downward 8 m l (omega arith) (omega arith) ∙ ap pos (omega arith))
-    (split m 8)
+    (λ (l : half < 8). rw (lt-ltb half 8 l) (upward half l))
+    (λ (l : 8 ≤ half). rw (le-ltb half 8 l) (downward half l (omega arith)))
+    (split half 8)
 
 -- One pulse steps the position counter exactly when position modulo 4 is 3, and leaves it otherwise.
 pub pulse-steps-counter :

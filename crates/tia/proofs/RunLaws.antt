@@ -188,7 +188,7 @@ unfolding reckonAt
 runs-moved o p c s ws k all rise moved run =
     line-end o p (positionOf o s + suc (endSlot m)) s ws k true 151 all rise run
     (moved-line o (writesOf ws) s (positionOf o s) c (s .timing .late) moved half (idle-start o s (run .at-rest)))
-    (pulses (positionOf o s) (endSlot m) ∙ sym (turned-signed (positionOf o s) m half)
+    (pulses (positionOf o s) (endSlot m) ∙ sym (turned-signed (positionOf o s) m)
     ∙ ap (λ (n : ℕ). turned n (signed m)) (run .at) ∙ turned-twice p (k .sum) (signed m) ∙ ap (turned p) (sym sum))
   where
     hm : ℕ

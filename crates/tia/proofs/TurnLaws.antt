@@ -55,11 +55,11 @@ turned-twice p a b =
     ∙ rw (turned-by p a) (omega (arith, mod-add a b)) ∙ sym (turned-by p (a +ℤ b))
 
 -- A move adds the slot that ends it and the 152 pulses of a line with a late blank.
-pub turned-signed : (p m : ℕ) → m ≤ 15 → turned p (signed m) ≡ (p + endSlot m + 152) % 160
+pub turned-signed : (p m : ℕ) → turned p (signed m) ≡ (p + endSlot m + 152) % 160
 unfolding mod160
-turned-signed p m h =
+turned-signed p m =
     turned-by p (signed m)
-    ∙ summed (mod160 (signed m)) (mod-below (signed m)) (ap mod160 (sym (compare-is-remainder m h)) ∙ mod-add (pos 8) (signed m))
+    ∙ summed (mod160 (signed m)) (mod-below (signed m)) (ap mod160 (sym (compare-is-remainder m)) ∙ mod-add (pos 8) (signed m))
   where
     summed : (n : ℕ) → n < 160 → endSlot m % 160 ≡ (8 % 160 + n) % 160 → (p + n) % 160 ≡ (p + endSlot m + 152) % 160
     summed n below e = omega arith

@@ -4,9 +4,11 @@ use mathlib.Core.Bool.{Bool, false, cond}
 use lib.Dec.{eqb, ltb}
 use lib.IntN.{ℤ, pos, negsuc, _-ℤ_}
 
--- Half bytes 8 to 15 mean -8 to -1.
+-- Half bytes 8 to 15 mean -8 to -1. (A motion value over 15, which no good state has, counts by its lower half byte.)
 unfoldable pub signed : ℕ → ℤ
-signed m = cond (ltb m 8) (pos m) (pos m -ℤ pos 16)
+signed m =
+    let half = m % 16 in
+    cond (ltb half 8) (pos half) (pos half -ℤ pos 16)
 
 -- Whether an integer is this natural number.
 abbrev pub isNumber : ℕ → ℤ → Bool

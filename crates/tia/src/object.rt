@@ -95,7 +95,7 @@ fn size_of(copies: u8) -> u8
 fn compare_value(motion: u8) -> u8
     ensures { λ r. ⌜ compareValue motion ≡ pos r ⌝ }
 {
-    if motion < 8 { motion + 8 } else { motion - 8 }
+    (motion % 16 + 8) % 16
 }
 
 impl Object {
