@@ -1,69 +1,15 @@
 //! The command line of the second program: one command a report, the listing, the object bytes,
 //! the repeated line, the test tapes.
 
-mod bench;
-mod calls;
 mod cases;
-mod chip_cases;
-mod chip_report;
-mod chip_state;
-mod clock;
-mod collisions;
-mod counter;
-mod counter_report;
 mod coverage;
-mod coverage_list;
-mod damage;
-mod demand3;
-mod demand3_report;
-mod digest;
-mod failure;
-mod faults;
-mod first_lit;
+mod model;
+mod reports;
+mod tapes;
 #[cfg(test)]
-mod giving;
-mod input;
-mod line;
-mod line_cases;
-mod line_coverage;
-mod line_faults;
-mod line_report;
-mod listing;
-mod lit;
-mod long_tapes;
-mod object;
-mod object_bytes;
-#[cfg(test)]
-mod played_lines;
-mod random;
-mod random_lists;
-mod random_states;
-mod random_tapes;
-mod random_writes;
-mod refusal;
-mod refused_tapes;
-mod registers;
-mod repeat_line;
-mod replay;
-mod run_cases;
-mod run_coverage;
-mod shown_tapes;
-mod single_cases;
-#[cfg(test)]
-mod slips;
-mod spoil;
-mod spoil_tape;
-mod state_bytes;
-mod tape;
-mod tape_calls;
-mod tape_cases;
-mod tape_coverage;
-mod tape_report;
-mod test_tapes;
-mod walk_cases;
-mod write_list;
+mod tests;
 
-use failure::Failure;
+use reports::failure::Failure;
 use std::env;
 use std::ffi::OsString;
 use std::io::{self, BufWriter, Write};
@@ -84,49 +30,49 @@ const COMMANDS: [Command; 8] = [
         name: "counter",
         arguments: &[],
         gives: "the six-bit counter's answers for every byte",
-        run: |_, out| Ok(counter_report::write(out)?),
+        run: |_, out| Ok(reports::counter_report::write(out)?),
     },
     Command {
         name: "chip_cases",
         arguments: &[],
         gives: "the case file of single clocks, walks, lines, runs and tapes (binary)",
-        run: |_, out| chip_cases::write(out),
+        run: |_, out| cases::chip_cases::write(out),
     },
     Command {
         name: "chip",
         arguments: &[],
         gives: "the chip's answers for the cases of the case file",
-        run: |_, out| Ok(chip_report::write(out)?),
+        run: |_, out| Ok(reports::chip_report::write(out)?),
     },
     Command {
         name: "demand3",
         arguments: &[],
         gives: "how often demand 3 was checked on the runs of the case file",
-        run: |_, out| demand3_report::write(out),
+        run: |_, out| reports::demand3_report::write(out),
     },
     Command {
         name: "listing",
         arguments: &[],
         gives: "the listing of the tape on standard input",
-        run: |_, out| Ok(listing::write(&mut io::stdin().lock(), out)?),
+        run: |_, out| Ok(model::listing::write(&mut io::stdin().lock(), out)?),
     },
     Command {
         name: "object_bytes",
         arguments: &[],
         gives: "the answer bytes of each line of the tape on standard input (binary)",
-        run: |_, out| Ok(object_bytes::write(&mut io::stdin().lock(), out)?),
+        run: |_, out| Ok(model::object_bytes::write(&mut io::stdin().lock(), out)?),
     },
     Command {
         name: "repeat_line",
         arguments: &[],
         gives: "the buffer after as many line calls as standard input asks for (binary)",
-        run: |_, out| Ok(repeat_line::write(&mut io::stdin().lock(), out)?),
+        run: |_, out| Ok(reports::repeat_line::write(&mut io::stdin().lock(), out)?),
     },
     Command {
         name: "tapes",
         arguments: &["DIR"],
         gives: "the test tapes, each a file in the folder DIR",
-        run: |arguments, _| test_tapes::write_into(Path::new(&arguments[0])),
+        run: |arguments, _| tapes::test_tapes::write_into(Path::new(&arguments[0])),
     },
 ];
 
@@ -181,7 +127,7 @@ fn main() -> ExitCode {
 }
 
 #[cfg(test)]
-mod tests {
+mod command_tests {
     use super::*;
 
     /// The name of the command that these words choose.
@@ -231,7 +177,7 @@ mod tests {
         let (command, arguments) = chosen(&words).unwrap();
         (command.run)(arguments, &mut by_command).unwrap();
         let mut report = Vec::new();
-        counter_report::write(&mut report).unwrap();
+        reports::counter_report::write(&mut report).unwrap();
         assert_eq!(by_command, report);
     }
 

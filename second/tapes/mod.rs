@@ -1,0 +1,6 @@
+//! The test tapes.
+
+pub mod long_tapes;
+pub mod refused_tapes;
+pub mod shown_tapes;
+pub mod test_tapes;
