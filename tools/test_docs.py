@@ -16,6 +16,8 @@ QUOTED = re.compile(r"`([^`\s]+)`")
 # A quoted name: of a definition, a theorem, a function, a crate or an edit. Texts that are printed or written otherwise are none.
 NAME = re.compile(r"[A-Za-z][\w-]*(?:::\w+)?")
 WORD = re.compile(r"[A-Za-z][\w·'-]*")
+# What a comment is, by the file's kind.
+COMMENT = {".rt": re.compile("//.*"), ".antt": re.compile("--.*"), ".rs": re.compile("//.*"), ".py": re.compile("#.*")}
 # Quoted names of commands that the project does not hold.
 COMMANDS = {"rustc"}
 
@@ -28,14 +30,13 @@ def edits():
     return found
 
 
-def words():
-    """Every word of the crates' files and of the second program, and every name of a file or folder of the project."""
+def words(folder):
+    """Every word of a folder's files but for their comments, and the names of these files and of their folders."""
     found = set()
-    for folder in ("crates", "second", "tools"):
-        for path in (PROJECT / folder).rglob("*"):
-            found.add(path.stem)
-            if path.suffix in (".rt", ".antt", ".rs", ".py"):
-                found.update(WORD.findall(path.read_text("utf-8")))
+    for path in (PROJECT / folder).rglob("*"):
+        found.add(path.stem)
+        if path.suffix in COMMENT:
+            found.update(WORD.findall(COMMENT[path.suffix].sub("", path.read_text("utf-8"))))
     return found
 
 
@@ -71,13 +72,31 @@ class Documents(unittest.TestCase):
                     self.assertTrue(tried and tried[1] in there, program)
 
     def test_names_are_there(self):
-        there = words() | set(edits()) | COMMANDS
+        there = words("crates") | words("second") | words("tools") | set(edits()) | COMMANDS
         for name in NAMING:
             quoted = [name for name in QUOTED.findall((DOCS / name).read_text("utf-8")) if NAME.fullmatch(name)]
             self.assertGreater(len(quoted), 50)
             missing = sorted({one for one in quoted if not set(one.split("::")) <= there})
             with self.subTest(document=name):
                 self.assertEqual(missing, [])
+
+
+class Decisions(unittest.TestCase):
+    def setUp(self):
+        self.text = (DOCS / "DECISIONS.md").read_text("utf-8")
+
+    def test_numbered_in_order(self):
+        numbers = [int(number) for number in re.findall(r"^(\d+)\. \*\*", self.text, re.MULTILINE)]
+        self.assertEqual(numbers, list(range(1, len(numbers) + 1)))
+
+    def test_part_one_names_nothing_of_the_code(self):
+        parts = self.text.split("\n# Part ")
+        self.assertEqual(len(parts), 3)
+        self.assertNotIn("`", parts[1])
+        # A name that is made of several words cannot be taken for plain English; one of them is the client's own word.
+        names = {word for word in words("crates") if re.search(r"[a-z][A-Z]|\w[_·-]\w", word)} - {"read-out"}
+        self.assertGreater(len(names), 500)
+        self.assertEqual(sorted(set(WORD.findall(parts[1])) & names), [])
 
 
 if __name__ == "__main__":
