@@ -9,6 +9,9 @@ mod tapes;
 #[cfg(test)]
 mod tests;
 
+use cases::case::{Case, RunCase};
+use cases::record::cases_of;
+use model::input::bytes_of_input;
 use reports::failure::Failure;
 use std::env;
 use std::ffi::OsString;
@@ -25,7 +28,7 @@ struct Command {
     run: fn(&[OsString], &mut dyn Write) -> Result<(), Failure>,
 }
 
-const COMMANDS: [Command; 8] = [
+const COMMANDS: [Command; 10] = [
     Command {
         name: "counter",
         arguments: &[],
@@ -35,20 +38,32 @@ const COMMANDS: [Command; 8] = [
     Command {
         name: "chip_cases",
         arguments: &[],
-        gives: "the case file of single clocks, walks, lines, runs and tapes (binary)",
+        gives: "the large case file of single clocks, walks, lines, runs and tapes (binary)",
         run: |_, out| cases::chip_cases::write(out),
+    },
+    Command {
+        name: "chip_sample",
+        arguments: &[],
+        gives: "a small case file with every kind of case and every outcome (binary)",
+        run: |_, out| cases::sample::write(out),
+    },
+    Command {
+        name: "coverage",
+        arguments: &[],
+        gives: "the table of what the cases of the large case file must make happen",
+        run: |_, out| Ok(out.write_all(coverage::text().as_bytes())?),
     },
     Command {
         name: "chip",
         arguments: &[],
-        gives: "the chip's answers for the cases of the case file",
-        run: |_, out| Ok(reports::chip_report::write(out)?),
+        gives: "the chip's answers for the cases of the case file on standard input",
+        run: |_, out| reports::chip_report::write(&mut io::stdin().lock(), out),
     },
     Command {
         name: "demand3",
         arguments: &[],
-        gives: "how often demand 3 was checked on the runs of the case file",
-        run: |_, out| reports::demand3_report::write(out),
+        gives: "how often demand 3 is checked on the runs of the case file on standard input",
+        run: |_, out| reports::demand3_report::write(out, &runs_of_input()?),
     },
     Command {
         name: "listing",
@@ -97,6 +112,19 @@ fn usage() -> String {
     text
 }
 
+/// The runs of the case file on standard input, each with its record's number. Fails at a record
+/// that cannot be read.
+fn runs_of_input() -> Result<Vec<(usize, RunCase)>, Failure> {
+    let file = bytes_of_input(&mut io::stdin().lock(), usize::MAX);
+    let mut runs = Vec::new();
+    for (number, case) in cases_of(&file).enumerate() {
+        if let Case::Run(run) = case? {
+            runs.push((number, run));
+        }
+    }
+    Ok(runs)
+}
+
 /// The exit status: 0 for a whole output, and for a write error on it, which only ends it; 1 for
 /// what is missing or false or cannot be written, which is named on the error output.
 fn status(done: Result<(), Failure>, errors: &mut dyn Write) -> u8 {
@@ -137,48 +165,23 @@ mod command_tests {
     }
 
     #[test]
-    fn exactly_one_known_name_chooses_a_command() {
-        let names = [
-            "counter",
-            "chip_cases",
-            "chip",
-            "demand3",
-            "listing",
-            "object_bytes",
-            "repeat_line",
-        ];
-        for name in names {
-            assert_eq!(name_of(&[name]), Some(name));
-            assert_eq!(name_of(&[name, name]), None);
-        }
-        for unknown in ["", "Counter", "count", "counter ", "--help"] {
-            assert_eq!(name_of(&[unknown]), None);
-        }
-        assert_eq!(name_of(&[]), None);
-    }
-
-    #[test]
-    fn the_tapes_need_one_folder() {
-        assert_eq!(name_of(&["tapes"]), None);
+    fn one_known_name_and_its_arguments_choose_a_command() {
+        assert_eq!(name_of(&["chip"]), Some("chip"));
         assert_eq!(name_of(&["tapes", "a"]), Some("tapes"));
-        assert_eq!(name_of(&["tapes", "a", "b"]), None);
-        let words = ["tapes", "/no/such/folder"].map(OsString::from);
-        let (command, arguments) = chosen(&words).unwrap();
-        match (command.run)(arguments, &mut Vec::new()) {
-            Err(Failure::Named(text)) => assert!(text.contains("/no/such/folder")),
-            other => panic!("{:?}", other),
+        let unknown: [&[&str]; 6] = [
+            &[],
+            &["chips"],
+            &["Chip"],
+            &["chip", "a"],
+            &["tapes"],
+            &["tapes", "a", "b"],
+        ];
+        for words in unknown {
+            assert_eq!(name_of(words), None);
         }
-    }
-
-    #[test]
-    fn the_counter_command_writes_the_counter_report() {
-        let mut by_command = Vec::new();
-        let words = [OsString::from("counter")];
-        let (command, arguments) = chosen(&words).unwrap();
-        (command.run)(arguments, &mut by_command).unwrap();
-        let mut report = Vec::new();
-        reports::counter_report::write(&mut report).unwrap();
-        assert_eq!(by_command, report);
+        for command in &COMMANDS {
+            assert!(usage().contains(&format!("\n  {} ", command.name)));
+        }
     }
 
     #[test]
@@ -193,13 +196,5 @@ mod command_tests {
             assert_eq!(status(done, &mut errors), expected);
             assert_eq!(errors, text.as_bytes());
         }
-    }
-
-    #[test]
-    fn usage_lists_every_command() {
-        for command in &COMMANDS {
-            assert!(usage().contains(&format!("\n  {} ", command.name)));
-        }
-        assert!(usage().contains("\n  tapes DIR  the test tapes"));
     }
 }

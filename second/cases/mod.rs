@@ -1,22 +1,21 @@
-//! The cases and their generators.
+//! The cases, their records and their generators.
 
 pub mod bench;
-pub mod calls;
+pub mod build_lists;
+pub mod build_tapes;
+pub mod case;
 pub mod chip_cases;
 pub mod damage;
-pub mod generated;
+pub mod drawing_writes;
 pub mod line_cases;
 pub mod random;
 pub mod random_lists;
 pub mod random_states;
-pub mod random_tapes;
-pub mod random_writes;
+pub mod record;
 pub mod run_cases;
+pub mod sample;
 pub mod single_cases;
 pub mod spoil;
-pub mod spoil_tape;
-pub mod state_bytes;
-pub mod state_faults;
-pub mod tape_calls;
+pub mod state_fields;
 pub mod tape_cases;
 pub mod walk_cases;

@@ -2,13 +2,10 @@
 //! bad ones.
 
 use crate::cases::random::Random;
-use crate::cases::state_bytes::{from_bytes, to_bytes};
-use crate::cases::state_faults::FIELDS;
+use crate::cases::state_fields::{checked_fields, from_bytes, to_bytes, FIELDS, LENGTH};
 use crate::model::lit::lit_ages;
-use crate::model::object::Object;
 use crate::model::registers::Registers;
 use crate::model::state::{State, NO_MOTION};
-use std::array;
 
 /// Clocks at the edges of the line, of the horizontal blank and of the blank columns.
 const EDGE_CLOCKS: [u8; 12] = [0, 1, 66, 67, 68, 69, 74, 75, 76, 77, 226, 227];
@@ -18,40 +15,19 @@ const EDGE_POSITIONS: [u8; 12] = [158, 159, 0, 14, 15, 16, 30, 31, 32, 62, 63, 6
 
 /// A good state with each field drawn evenly from its range.
 pub fn even_state(random: &mut Random) -> State {
-    let slot = random.up_to(NO_MOTION);
-    State {
-        h: random.up_to(227),
-        objects: array::from_fn(|_| Object {
-            position: random.up_to(159),
-            age: random.up_to(64),
-            motion: random.up_to(15),
-            live: slot < NO_MOTION && random.flag(),
-        }),
-        sizes: array::from_fn(|_| random.pick(&[1, 2, 4])),
-        slot,
-        late: random.flag(),
-        latches: array::from_fn(|_| random.flag()),
-        registers: even_registers(random),
+    let mut bytes = [0; LENGTH];
+    for (byte, field) in bytes.iter_mut().zip(&FIELDS) {
+        *byte = field.draw(random);
     }
+    let mut state = from_bytes(&bytes);
+    clear_live_flags_without_motion(&mut state);
+    state
 }
 
-/// Registers with each field drawn evenly from its range.
-fn even_registers(random: &mut Random) -> Registers {
-    Registers {
-        copies: array::from_fn(|_| random.up_to(7)),
-        width_codes: array::from_fn(|_| random.up_to(3)),
-        ctrlpf: random.byte(),
-        refp: array::from_fn(|_| random.flag()),
-        pf0: random.up_to(15),
-        pf1: random.byte(),
-        pf2: random.byte(),
-        grp_new: array::from_fn(|_| random.byte()),
-        grp_old: array::from_fn(|_| random.byte()),
-        enam: array::from_fn(|_| random.flag()),
-        enabl_new: random.flag(),
-        enabl_old: random.flag(),
-        vdelp: array::from_fn(|_| random.flag()),
-        vdelbl: random.flag(),
+/// Makes the live flags of a state without motion false.
+fn clear_live_flags_without_motion(state: &mut State) {
+    for object in &mut state.objects {
+        object.live &= state.slot != NO_MOTION;
     }
 }
 
@@ -109,74 +85,72 @@ fn edge_age(random: &mut Random, state: &State, object: usize) -> u8 {
 }
 
 /// Draws the slot: none under way, the first, the last, or one at which an object's comparison
-/// is equal; the live flags of a state without motion are made false.
+/// is equal.
 fn draw_slot(random: &mut Random, state: &mut State) {
     match random.up_to(5) {
         0 => state.slot = NO_MOTION,
         1 => state.slot = 0,
         2 => state.slot = 15,
         3 | 4 => {
-            let object = usize::from(random.up_to(4));
+            let object = random.index(5);
             state.slot = state.objects[object].end_slot();
             state.objects[object].live = true;
         }
         _ => {}
     }
-    for object in &mut state.objects {
-        object.live &= state.slot != NO_MOTION;
-    }
+    clear_live_flags_without_motion(state);
 }
 
 /// A good state with h = 0; every other time no motion is under way, at times the playfield is
 /// dark.
 pub fn line_start_state(random: &mut Random) -> State {
-    let mut state = if random.one_in(4) {
-        even_state(random)
-    } else {
-        edge_state(random)
+    let mut state = match random.one_in(4) {
+        true => even_state(random),
+        false => edge_state(random),
     };
     state.h = 0;
     if random.flag() {
-        without_motion(&mut state);
+        state = without_motion(&state);
     }
     if random.one_in(6) {
-        darken_playfield(&mut state.registers);
+        set_playfield(&mut state.registers, 0);
     }
     state
 }
 
-/// Makes the playfield dark.
-pub fn darken_playfield(registers: &mut Registers) {
-    registers.pf0 = 0;
-    registers.pf1 = 0;
-    registers.pf2 = 0;
+/// Makes the playfield registers this byte: 0 darkens the playfield, 255 lights it.
+pub fn set_playfield(registers: &mut Registers, byte: u8) {
+    registers.pf0 = byte >> 4;
+    registers.pf1 = byte;
+    registers.pf2 = byte;
 }
 
-/// Makes a state one with no motion under way.
-pub fn without_motion(state: &mut State) {
-    state.slot = NO_MOTION;
-    for object in &mut state.objects {
-        object.live = false;
-    }
+/// The state with no motion under way.
+pub fn without_motion(state: &State) -> State {
+    let mut state = State {
+        slot: NO_MOTION,
+        ..*state
+    };
+    clear_live_flags_without_motion(&mut state);
+    state
 }
 
-/// The state with the byte of a checked field replaced.
-pub fn with_field(state: &State, field: usize, byte: u8) -> State {
+/// The state with the byte of a field replaced.
+fn with_field(state: &State, field: usize, byte: u8) -> State {
     let mut bytes = to_bytes(state);
-    bytes[FIELDS[field].place] = byte;
+    bytes[field] = byte;
     from_bytes(&bytes)
 }
 
-/// The good state with no motion under way and then one live flag set.
-pub fn with_live_flag(state: &State, object: usize) -> State {
-    let mut state = *state;
-    without_motion(&mut state);
+/// The state with no motion under way and then one live flag set.
+fn with_live_flag(state: &State, object: usize) -> State {
+    let mut state = without_motion(state);
     state.objects[object].live = true;
     state
 }
 
 /// A byte out of a checked field's range.
-pub fn byte_beyond(random: &mut Random, field: usize) -> u8 {
+fn byte_beyond(random: &mut Random, field: usize) -> u8 {
     loop {
         let byte = random.byte();
         if !FIELDS[field].has(byte) {
@@ -185,67 +159,40 @@ pub fn byte_beyond(random: &mut Random, field: usize) -> u8 {
     }
 }
 
-/// A bad state: one to four faults, among them fields out of range and live flags with slot 16.
-pub fn bad_state(random: &mut Random) -> State {
-    let mut state = edge_state(random);
-    if random.one_in(4) {
-        state = with_live_flag(&state, usize::from(random.up_to(4)));
+/// Each single fault of refusal 1, each time in another of these good states: each checked field
+/// next to its range, at 255 and anywhere out of it, and three times each live flag with slot 16.
+pub fn faulty_states(random: &mut Random, good: fn(&mut Random) -> State) -> Vec<State> {
+    let mut states = Vec::new();
+    for (n, field) in checked_fields() {
+        let anywhere = byte_beyond(random, n);
+        for byte in field.beyond().into_iter().chain([anywhere]) {
+            states.push(with_field(&good(random), n, byte));
+        }
     }
-    for _ in 0..=random.up_to(2) {
-        let field = usize::from(random.up_to(23));
-        let byte = byte_beyond(random, field);
-        state = with_field(&state, field, byte);
+    for object in [0, 1, 2, 3, 4].repeat(3) {
+        states.push(with_live_flag(&good(random), object));
     }
-    state
+    states
 }
 
-#[cfg(test)]
-mod tests {
-    use super::*;
-    use crate::cases::state_faults::{faults, Fault};
-
-    #[test]
-    fn even_and_edge_states_are_good() {
-        let mut random = Random::new(1);
-        for _ in 0..2000 {
-            assert!(even_state(&mut random).check().is_ok());
-            assert!(edge_state(&mut random).check().is_ok());
-        }
+/// The state with one fault of refusal 1, h being as it is.
+pub fn with_fault(random: &mut Random, state: &State) -> State {
+    if random.one_in(6) {
+        return with_live_flag(state, random.index(5));
     }
+    let but_h: Vec<usize> = checked_fields().map(|(n, _)| n).skip(1).collect();
+    let field = random.pick(&but_h);
+    with_field(state, field, byte_beyond(random, field))
+}
 
-    #[test]
-    fn line_start_states_are_good_with_h_0_and_motion_under_way_or_not() {
-        let mut random = Random::new(15);
-        let mut without = 0;
-        for _ in 0..1000 {
-            let state = line_start_state(&mut random);
-            assert!(state.check().is_ok());
-            assert_eq!(state.h, 0);
-            without += u32::from(state.slot == NO_MOTION);
-        }
-        assert!((500..700).contains(&without), "{}", without);
+/// A bad state: one to four faults, h out of range among them.
+pub fn bad_state(random: &mut Random) -> State {
+    let mut state = edge_state(random);
+    for _ in 0..=random.up_to(2) {
+        state = with_fault(random, &state);
     }
-
-    #[test]
-    fn bad_states_are_bad() {
-        let mut random = Random::new(2);
-        for _ in 0..2000 {
-            assert!(bad_state(&mut random).check().is_err());
-        }
+    if random.one_in(8) {
+        state.h = byte_beyond(random, 0);
     }
-
-    #[test]
-    fn a_field_or_a_live_flag_alone_is_the_only_fault() {
-        let mut random = Random::new(3);
-        for field in 0..FIELDS.len() {
-            let state = edge_state(&mut random);
-            let byte = byte_beyond(&mut random, field);
-            let bad = with_field(&state, field, byte);
-            assert_eq!(faults(&to_bytes(&bad)), [Fault::Field(field)]);
-        }
-        for object in 0..5 {
-            let bad = with_live_flag(&edge_state(&mut random), object);
-            assert_eq!(faults(&to_bytes(&bad)), [Fault::Live(object)]);
-        }
-    }
+    state
 }

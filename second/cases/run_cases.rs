@@ -1,45 +1,60 @@
-//! The runs of the case file: the bench checks, runs that keep the premises of demand 3 for some
-//! objects, runs that just fail to, and runs of any lists.
+//! The runs of the case file: the bench checks, runs that but for one line keep the premises of
+//! demand 3, runs that keep them for some objects, and runs of any lists.
 
 use crate::cases::bench::checks;
-use crate::cases::calls::{Call, RunCase, RUNS, RUN_CALLS};
+use crate::cases::build_lists::address_of;
+use crate::cases::case::{Call, RunCase, RUN_CALLS};
+use crate::cases::chip_cases::Group;
 use crate::cases::random::Random;
 use crate::cases::random_lists::{free_list, hmove_at, put, rising_clocks, write_at};
 use crate::cases::random_states::line_start_state;
 use crate::cases::spoil::spoil_call;
-use crate::model::registers::{address_of, register_at, Register, Registers, KNOWN};
+use crate::model::registers::{register_at, Register, Registers, KNOWN};
 use crate::model::state::State;
 use crate::model::write_list::ListedWrite;
-use crate::reports::demand3::sets_motion_after;
 
-/// The runs: the bench checks, then of each 20 eleven that keep the premises, two that just fail
-/// to and seven of any lists.
-pub fn generate(random: &mut Random) -> Vec<RunCase> {
-    let mut runs = bench_runs();
-    while runs.len() < RUNS {
-        let run = match runs.len() % 20 {
-            0..=10 => moving_run(random),
-            11 | 12 => failing_run(random),
-            _ => free_run(random),
-        };
-        runs.push(run);
+/// Clocks after an HMOVE at which a line that fails the premises sets motion values, 72 being the
+/// latest that can matter.
+const LATE_MOTION: [u8; 22] = [
+    16, 17, 20, 21, 24, 28, 31, 32, 36, 40, 44, 48, 52, 56, 60, 64, 68, 69, 70, 71, 72, 75,
+];
+
+/// Clocks that are too late for an HMOVE.
+const LATE_HMOVES: [u8; 17] = [
+    16, 16, 17, 18, 19, 20, 24, 32, 48, 64, 66, 67, 68, 100, 163, 164, 227,
+];
+
+/// Clocks of a second HMOVE in a line.
+const SECOND_HMOVES: [u8; 12] = [2, 3, 5, 8, 12, 15, 16, 40, 67, 68, 150, 227];
+
+/// The groups in their order.
+pub const GROUPS: [Group<RunCase>; 2] = [bench_checks, failing_runs];
+
+/// Of each five runs three that keep the premises of an object, and two of any lists.
+pub fn other(random: &mut Random) -> RunCase {
+    let object = random.index(5);
+    match random.up_to(4) {
+        0..=2 => moving_run(random, object),
+        _ => free_run(random),
     }
-    runs
 }
 
-/// The bench checks, filled up with calls without writes.
-fn bench_runs() -> Vec<RunCase> {
-    checks()
-        .iter()
-        .map(|check| {
-            let mut calls: Vec<Call> = check.lines.iter().map(|line| Call::with(line)).collect();
-            calls.resize(RUN_CALLS, Call::with(&[]));
-            RunCase {
-                state: State::START,
-                calls,
-            }
-        })
-        .collect()
+/// The bench checks.
+fn bench_checks(_: &mut Random, runs: &mut Vec<RunCase>) {
+    for check in checks() {
+        runs.push(RunCase::of_lines(State::START, &check.lines));
+    }
+}
+
+/// Runs that but for one line keep the premises of an object.
+fn failing_runs(random: &mut Random, runs: &mut Vec<RunCase>) {
+    for object in 0..5 {
+        for line in failing_lines(random, object) {
+            let mut run = moving_run(random, object);
+            run.calls[random.index(RUN_CALLS - 1)] = Call::with(&line);
+            runs.push(run);
+        }
+    }
 }
 
 /// A run of any lists, one in six of them refused.
@@ -63,37 +78,99 @@ fn refused_call(random: &mut Random) -> Call {
     call
 }
 
-/// Which way the motion values of a run go.
-#[derive(Clone, Copy)]
-enum Way {
-    Any,
-    Left,
-    Right,
-}
-
-impl Way {
-    /// A value for a motion register.
-    fn value(self, random: &mut Random) -> u8 {
-        match self {
-            Way::Any => random.byte(),
-            Way::Left => random.between(0x40, 0x7F),
-            Way::Right => random.between(0x80, 0xBF),
+/// The lines that fail the premises of an object, by setting motion values after an HMOVE, by an
+/// HMOVE too late, by a second one and by the object's strobe.
+fn failing_lines(random: &mut Random, object: usize) -> Vec<Vec<ListedWrite>> {
+    let mut lines = Vec::new();
+    for clear in [false, true] {
+        for clock in LATE_MOTION {
+            let hmove = random.between(8, 15);
+            lines.push(late_motion(random, object, hmove, clock, clear));
+        }
+        for hmove in 8..=15 {
+            lines.push(late_motion(random, object, hmove, 72, clear));
         }
     }
+    for clock in LATE_HMOVES {
+        lines.push(late_hmove(random, object, clock));
+    }
+    for second in SECOND_HMOVES {
+        lines.push(two_hmoves(random, object, second));
+    }
+    for _ in 0..6 {
+        let clock = random.up_to(227);
+        let address = address_of(Register::Strobe(object));
+        lines.push(vec![write_at(random, clock, address)]);
+    }
+    lines
 }
 
-/// A run that keeps the premises of demand 3 for the objects whose strobes it does not use; in
-/// most of them the drawing registers are those of the first state again at the end.
-fn moving_run(random: &mut Random) -> RunCase {
+/// A write that gives an object the motion value whose comparison is equal at this slot.
+fn motion_at(random: &mut Random, clock: u8, object: usize, end_slot: u8) -> ListedWrite {
+    let half_byte = (end_slot + 8) % 16;
+    let value = half_byte << 4 | random.up_to(15);
+    ListedWrite::new(clock, address_of(Register::Motion(object)), value)
+}
+
+/// A line with an HMOVE at 8 to 15 and a write to the object's motion register, or to HMCLR, at a
+/// clock after it. The object's comparison would be equal at the first comparison from that clock
+/// on, and is not because of the write; where HMCLR would make it equal there, it would be equal
+/// at the next.
+fn late_motion(
+    random: &mut Random,
+    object: usize,
+    hmove: u8,
+    clock: u8,
+    clear: bool,
+) -> Vec<ListedWrite> {
+    let slot = ((clock + 3) / 4 - (hmove / 4 + 1)).min(15);
+    let end_slot = if clear && slot == 8 { 9 } else { slot };
+    let late = match clear {
+        true => write_at(random, clock, address_of(Register::Hmclr)),
+        false => {
+            let other = (end_slot + random.between(1, 15)) % 16;
+            motion_at(random, clock, object, other)
+        }
+    };
+    let before = motion_at(random, 0, object, end_slot);
+    vec![before, hmove_at(random, hmove), late]
+}
+
+/// A line with an HMOVE at a clock from 16 on, and a motion value for which too few comparisons
+/// are left in the line's blank.
+fn late_hmove(random: &mut Random, object: usize, clock: u8) -> Vec<ListedWrite> {
+    let comparisons = if clock < 68 { 18 - clock / 4 } else { 14 };
+    let end_slot = random.between(comparisons + 1, 15);
+    let before = motion_at(random, 0, object, end_slot);
+    vec![before, hmove_at(random, clock)]
+}
+
+/// A line with an HMOVE at 1 to 15 and a second one at a clock, and motion value 7.
+fn two_hmoves(random: &mut Random, object: usize, second: u8) -> Vec<ListedWrite> {
+    let first = random.between(1, (second - 1).min(15));
+    let before = motion_at(random, 0, object, 15);
+    vec![before, hmove_at(random, first), hmove_at(random, second)]
+}
+
+/// The values of a run's motion registers, from a first to a last.
+type Values = (u8, u8);
+
+/// Any values; those that go left, half bytes 4 to 7; those that go right, 8 to 11.
+const VALUES: [Values; 4] = [(0x00, 0xFF), (0x00, 0xFF), (0x40, 0x7F), (0x80, 0xBF)];
+
+/// A run that keeps the premises of demand 3 for this object and for the others whose strobes it
+/// does not use; in most of them the drawing registers are those of the first state again at the
+/// end.
+fn moving_run(random: &mut Random, object: usize) -> RunCase {
     let mut state = line_start_state(random);
-    let equal = usize::from(random.up_to(1));
+    let equal = random.index(2);
     state.registers.grp_old[equal] = state.registers.grp_new[equal];
-    let way = random.pick(&[Way::Any, Way::Any, Way::Left, Way::Right]);
-    let addresses = addresses_without_strobes(random);
+    let values = random.pick(&VALUES);
+    let addresses = addresses_without_strobes(random, object);
     let mut calls: Vec<Call> = (0..RUN_CALLS)
         .map(|_| match random.one_in(8) {
             true => refused_call(random),
-            false => Call::with(&moving_line(random, &addresses, way)),
+            false => Call::with(&moving_line(random, &addresses, values)),
         })
         .collect();
     if !random.one_in(5) {
@@ -102,74 +179,81 @@ fn moving_run(random: &mut Random) -> RunCase {
     RunCase { state, calls }
 }
 
-/// The known addresses but HMOVE and some of the position strobes, at least one.
-fn addresses_without_strobes(random: &mut Random) -> Vec<u8> {
-    let always = usize::from(random.up_to(4));
-    let left_out: Vec<bool> = (0..5)
-        .map(|object| object == always || !random.one_in(4))
-        .collect();
-    let kept = |register: Register| match register {
-        Register::Strobe(object) => !left_out[object],
-        register => register != Register::Hmove,
-    };
-    KNOWN
-        .iter()
-        .filter(|known| kept(known.2))
-        .map(|known| known.0)
-        .collect()
+/// The known addresses but HMOVE, this object's strobe and most of the other strobes.
+fn addresses_without_strobes(random: &mut Random, object: usize) -> Vec<u8> {
+    let mut addresses = Vec::new();
+    for (address, _, register) in KNOWN {
+        let kept = match register {
+            Register::Hmove => false,
+            Register::Strobe(other) => other != object && random.one_in(4),
+            _ => true,
+        };
+        if kept {
+            addresses.push(address);
+        }
+    }
+    addresses
 }
 
 /// A line with writes to these addresses and more to motion registers from clock 76 on; in two
 /// lines of three with an HMOVE that keeps the premises.
-fn moving_line(random: &mut Random, addresses: &[u8], way: Way) -> Vec<ListedWrite> {
+fn moving_line(random: &mut Random, addresses: &[u8], values: Values) -> Vec<ListedWrite> {
     let number = random.up_to(14);
     let mut line = Vec::new();
     for clock in rising_clocks(random, 0, number) {
         let address = random.pick(addresses);
-        line.push(moving_write(random, clock, address, way));
+        line.push(moving_write(random, clock, address, values));
     }
     for _ in 0..random.up_to(3) {
         let any = random.between(76, 227);
         let clock = random.pick(&[76, any, any, any]);
-        put_motion(random, &mut line, clock, way);
+        put_motion(random, &mut line, clock, values);
     }
     if !random.one_in(3) {
         let any = random.up_to(15);
         let clock = random.pick(&[0, 15, any, any]);
-        put_allowed_hmove(random, &mut line, clock, way);
+        put_allowed_hmove(random, &mut line, clock, values);
     }
     line
 }
 
-/// A write at a clock to an address; to a motion register with a value that goes this way.
-fn moving_write(random: &mut Random, clock: u8, address: u8, way: Way) -> ListedWrite {
+/// A write at a clock to an address; to a motion register with one of these values.
+fn moving_write(random: &mut Random, clock: u8, address: u8, values: Values) -> ListedWrite {
     match register_at(address) {
-        Some(Register::Motion(_)) => ListedWrite::new(clock, address, way.value(random)),
+        Some(Register::Motion(_)) => {
+            ListedWrite::new(clock, address, random.between(values.0, values.1))
+        }
         _ => write_at(random, clock, address),
     }
 }
 
 /// Puts a write to a motion register, or at times to HMCLR, at a clock.
-fn put_motion(random: &mut Random, line: &mut Vec<ListedWrite>, clock: u8, way: Way) {
+fn put_motion(random: &mut Random, line: &mut Vec<ListedWrite>, clock: u8, values: Values) {
     let register = match random.up_to(11) {
         0 => Register::Hmclr,
         n => Register::Motion(usize::from(n % 5)),
     };
-    put(line, moving_write(random, clock, address_of(register), way));
+    put(
+        line,
+        moving_write(random, clock, address_of(register), values),
+    );
 }
 
 /// Puts an HMOVE at a clock, 0 to 15, often with a motion value set before it, and leaves out
-/// what the premises do not allow after it.
-fn put_allowed_hmove(random: &mut Random, line: &mut Vec<ListedWrite>, clock: u8, way: Way) {
+/// the motion registers and HMCLR after it up to clock 75.
+fn put_allowed_hmove(random: &mut Random, line: &mut Vec<ListedWrite>, clock: u8, values: Values) {
     if clock > 0 {
         for _ in 0..random.up_to(3) {
             let any = random.up_to(clock - 1);
             let before = random.pick(&[clock - 1, any]);
-            put_motion(random, line, before, way);
+            put_motion(random, line, before, values);
         }
     }
     put(line, hmove_at(random, clock));
-    line.retain(|record| !sets_motion_after(record, clock));
+    line.retain(|record| {
+        let sets_motion = matches!(record.write.address, 0x20..=0x24 | 0x2B);
+        !sets_motion || record.clock < clock || record.clock > 75
+    });
 }
 
 /// A line that makes the drawing registers those of a state of which one player has equal
@@ -217,112 +301,59 @@ fn restoring_writes(registers: &Registers) -> Vec<(Register, u8)> {
     writes
 }
 
-/// A run that would keep the premises but for one line: an HMOVE at 16 with half bytes 7, which is
-/// too late for them, a motion register up to clock 75 after an HMOVE, a second HMOVE, or an
-/// object's strobe.
-fn failing_run(random: &mut Random) -> RunCase {
-    let mut run = moving_run(random);
-    let mut line = vec![hmove_at(random, 16)];
-    match random.up_to(3) {
-        0 => {
-            for object in 0..5 {
-                let address = address_of(Register::Motion(object));
-                put(&mut line, ListedWrite::new(object as u8, address, 0x70));
-            }
-        }
-        1 => {
-            line[0].clock = random.up_to(15);
-            let any = random.between(16, 75);
-            let clock = random.pick(&[75, 75, any]);
-            put_motion(random, &mut line, clock, Way::Any);
-        }
-        2 => {
-            line[0].clock = random.up_to(15);
-            let clock = random.between(16, 227);
-            put(&mut line, hmove_at(random, clock));
-        }
-        _ => {
-            let object = usize::from(random.up_to(4));
-            line[0].write.address = address_of(Register::Strobe(object));
-            line[0].clock = random.up_to(227);
-        }
-    }
-    let call = usize::from(random.up_to(RUN_CALLS as u8 - 2));
-    run.calls[call] = Call::with(&line);
-    run
-}
-
 #[cfg(test)]
 mod tests {
     use super::*;
-    use crate::cases::random_states::even_state;
-    use crate::reports::demand3::{Finding, PlayedRun};
+    use crate::cases::case::play_chain;
+    use crate::cases::random_states::without_motion;
 
-    /// What is found of each object that keeps its premises in a run.
-    fn findings(run: &RunCase) -> Vec<Finding> {
-        let played = PlayedRun::new(0, run);
-        (0..5).filter_map(|object| played.find(object)).collect()
+    /// How far a line and one without writes after it take an object whose motion value the line
+    /// sets first, and how far that value times the number of HMOVEs would.
+    fn moved_and_meant(state: &State, line: &[ListedWrite], object: usize) -> (i32, i32) {
+        let chain = play_chain(state, &[Call::with(line), Call::with(&[])], 0);
+        let position = |state: &State| i32::from(state.objects[object].position);
+        let moved = position(&chain[1].answer.state) - position(state);
+        let hmoves = line.iter().filter(|record| record.write.address == 0x2A);
+        let half_byte = i32::from(line[0].write.value >> 4);
+        let signed = (half_byte + 8) % 16 - 8;
+        let meant = signed * hmoves.count() as i32;
+        (moved.rem_euclid(160), meant.rem_euclid(160))
     }
 
     #[test]
-    fn there_are_300_of_20_calls_from_good_states_at_h_0() {
-        let runs = generate(&mut Random::new(51));
-        assert_eq!(runs.len(), 300);
-        for run in runs {
-            assert!(run.state.check().is_ok() && run.state.h == 0);
-            assert_eq!(run.calls.len(), 20);
-            assert!(run.calls.iter().all(|call| call.list.len() <= 699));
-        }
-    }
-
-    #[test]
-    fn moving_runs_keep_the_premises_of_some_object() {
-        let mut random = Random::new(52);
-        for _ in 0..20 {
-            assert!(!findings(&moving_run(&mut random)).is_empty());
-        }
-    }
-
-    #[test]
-    fn failing_runs_do_not_keep_the_premises_of_every_object() {
+    fn lines_that_fail_the_premises_take_the_object_elsewhere() {
         let mut random = Random::new(53);
-        for _ in 0..20 {
-            assert!(findings(&failing_run(&mut random)).len() < 5);
-        }
-    }
-
-    #[test]
-    fn refused_calls_are_refused_with_3_to_7() {
-        let mut random = Random::new(54);
-        for _ in 0..100 {
-            let played = refused_call(&mut random).play(&State::START, 0);
-            assert!((3..=7).contains(&played.answer.number));
-        }
-    }
-
-    #[test]
-    fn restoring_writes_make_the_drawing_registers_those_of_the_state() {
-        let mut random = Random::new(55);
-        for n in 0..200 {
-            let mut wanted = even_state(&mut random).registers;
-            wanted.grp_old[n % 2] = wanted.grp_new[n % 2];
-            let mut registers = even_state(&mut random).registers;
-            for (register, value) in restoring_writes(&wanted) {
-                registers.set(register, value);
+        for object in 0..5 {
+            let state = without_motion(&line_start_state(&mut random));
+            let mut lines = Vec::new();
+            for hmove in 8..=15 {
+                for clock in 16..=72 {
+                    lines.push(late_motion(&mut random, object, hmove, clock, false));
+                    lines.push(late_motion(&mut random, object, hmove, clock, true));
+                }
             }
-            registers.pf0 = wanted.pf0;
-            registers.pf1 = wanted.pf1;
-            registers.pf2 = wanted.pf2;
-            assert_eq!(registers, wanted);
+            lines.extend(LATE_HMOVES.map(|clock| late_hmove(&mut random, object, clock)));
+            lines.extend((2..=15).map(|second| two_hmoves(&mut random, object, second)));
+            for line in lines {
+                let (moved, meant) = moved_and_meant(&state, &line, object);
+                assert_ne!(moved, meant, "{:?}", line);
+            }
         }
     }
 
     #[test]
-    fn motion_values_go_one_way() {
-        let mut random = Random::new(56);
-        for _ in 0..100 {
-            assert!((4..=7).contains(&(Way::Left.value(&mut random) >> 4)));
-            assert!((8..=11).contains(&(Way::Right.value(&mut random) >> 4)));
+    fn an_allowed_hmove_takes_the_object_where_its_motion_value_says() {
+        let mut random = Random::new(54);
+        for clock in 1..=15 {
+            for end_slot in 0..16 {
+                let state = without_motion(&line_start_state(&mut random));
+                let line = [
+                    motion_at(&mut random, 0, 3, end_slot),
+                    hmove_at(&mut random, clock),
+                ];
+                let (moved, meant) = moved_and_meant(&state, &line, 3);
+                assert_eq!(moved, meant);
+            }
         }
     }
 }

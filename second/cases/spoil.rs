@@ -1,62 +1,65 @@
-//! Faults put into line calls.
+//! Faults put into calls: into a line call's state, buffer, list and records, and into the tape
+//! and the place of a tape call.
 
-use crate::cases::calls::{Call, LineCase};
+use crate::cases::build_lists::list_of;
+use crate::cases::case::{Call, LineCase, TapeCase};
 use crate::cases::random::Random;
-use crate::cases::random_lists::{short_list, write_at};
-use crate::cases::random_states::{byte_beyond, with_field, with_live_flag};
-use crate::cases::random_writes::unknown_addresses;
-use crate::cases::state_faults::FIELDS;
-use crate::model::registers::KNOWN;
-use crate::model::state::State;
-use crate::model::write_list::{list_of, records, ListedWrite, MOST_BYTES};
+use crate::cases::random_lists::{known_write_at, short_list, unknown_addresses};
+use crate::cases::random_states::with_fault;
+use crate::model::tape::{stretch, VERSION};
+use crate::model::write_list::{records, ListedWrite, MOST_BYTES};
 
 /// Lengths of a buffer that are refused, at the edges and between.
-pub const WRONG_LENGTHS: [u8; 8] = [0, 1, 64, 100, 159, 161, 200, 255];
+pub const BAD_BUFFERS: [u8; 8] = [0, 1, 64, 100, 159, 161, 200, 255];
 
-/// Gives a call the fault with this number, 1 to 7.
+/// Lengths of a list that are refused: no multiples of 3, and over 684.
+pub const BAD_LENGTHS: [u16; 35] = [
+    1, 2, 4, 5, 7, 8, 100, 256, 301, 302, 682, 683, 685, 686, 687, 688, 689, 690, 691, 692, 693,
+    694, 695, 696, 697, 698, 699, 768, 1536, 4096, 32_767, 32_768, 65_533, 65_534, 65_535,
+];
+
+/// Gives a line call the fault with this number, 1 to 7.
 pub fn spoil(random: &mut Random, case: &mut LineCase, fault: u8) {
     match fault {
-        1 => case.state = bad_at_line_start(random, &case.state),
+        1 => case.state = with_fault(random, &case.state),
         2 => case.state.h = random.between(1, 227),
         _ => spoil_call(random, &mut case.call, fault),
     }
 }
 
-/// The state with one fault, h being as it is.
-fn bad_at_line_start(random: &mut Random, state: &State) -> State {
-    if random.one_in(6) {
-        return with_live_flag(state, usize::from(random.up_to(4)));
-    }
-    let field = usize::from(random.between(1, FIELDS.len() as u8 - 1));
-    let byte = byte_beyond(random, field);
-    with_field(state, field, byte)
-}
-
 /// Gives a call the fault with this number, 3 to 7, which its state has no part in.
 pub fn spoil_call(random: &mut Random, call: &mut Call, fault: u8) {
+    let whole = call.list.len() / 3 * 3;
     match fault {
-        3 => call.length = random.pick(&WRONG_LENGTHS),
+        3 => call.length = random.pick(&BAD_BUFFERS),
         4 => {
-            let beyond = usize::from(random.between(1, 15));
-            let length = match random.up_to(7) {
-                0 => MOST_BYTES + beyond,
-                _ => call.list.len() / 3 * 3 + usize::from(random.between(1, 2)),
+            let length = match random.one_in(8) {
+                true => MOST_BYTES + usize::from(random.between(1, 15)),
+                false => whole + usize::from(random.between(1, 2)),
             };
             resize(random, &mut call.list, length);
         }
         _ => {
-            if call.list.len() < 6 {
-                let rest = call.list.split_off(call.list.len() / 3 * 3);
-                call.list = list_of(&short_list(random));
-                call.list.extend(rest);
-            }
+            let rest = call.list.split_off(whole);
             let mut list = records(&call.list);
-            let index = any_index(random, &list).max(least_index(fault));
+            if list.len() < 2 {
+                list = short_list(random);
+            }
+            let index = random.index(list.len()).max(least_index(fault));
             spoil_record(random, &mut list, index, fault);
-            let bytes = list_of(&list);
-            call.list[..bytes.len()].copy_from_slice(&bytes);
+            call.list = [list_of(&list), rest].concat();
         }
     }
+}
+
+/// Cuts a list to a length, or fills it up with records of a known register at a good clock, the
+/// last of them cut.
+pub fn resize(random: &mut Random, list: &mut Vec<u8>, length: usize) {
+    while list.len() < length {
+        let clock = random.up_to(227);
+        list.extend(list_of(&[known_write_at(random, clock)]));
+    }
+    list.truncate(length);
 }
 
 /// Gives a record the fault with this number, 5 to 7; 6 only to one that has another before it.
@@ -72,112 +75,93 @@ pub fn spoil_record(random: &mut Random, list: &mut [ListedWrite], index: usize,
     }
 }
 
-/// Gives an earlier and a later record, of three or more, the faults with these numbers, 5 to 7.
-pub fn spoil_two_records(random: &mut Random, list: &mut [ListedWrite], first: u8, second: u8) {
-    let later = usize::from(random.between(2, list.len() as u8 - 1));
-    let earlier = usize::from(random.between(1, later as u8 - 1));
-    spoil_record(random, list, later, second);
-    spoil_record(random, list, earlier, first);
-}
-
-/// The index of any record.
-pub fn any_index(random: &mut Random, list: &[ListedWrite]) -> usize {
-    usize::from(random.up_to(list.len() as u8 - 1))
-}
-
-/// Cuts a list to a length, or fills it up with records of a known register at a good clock, the
-/// last of them cut.
-pub fn resize(random: &mut Random, list: &mut Vec<u8>, length: usize) {
-    while list.len() < length {
-        let clock = random.up_to(227);
-        let (address, _, _) = random.pick(&KNOWN);
-        list.extend(list_of(&[write_at(random, clock, address)]));
-    }
-    list.truncate(length);
-}
-
 /// The least index at which a record can have a fault: none stands before the first.
 pub fn least_index(fault: u8) -> usize {
     usize::from(fault == 6)
 }
 
-#[cfg(test)]
-mod tests {
-    use super::*;
-    use crate::cases::random_lists::free_list;
-    use crate::cases::random_states::line_start_state;
-    use crate::model::line_faults::line_faults;
+/// Gives an earlier and a later record, of three or more, the faults with these numbers, 5 to 7.
+pub fn spoil_two_records(random: &mut Random, list: &mut [ListedWrite], first: u8, second: u8) {
+    let later = 2 + random.index(list.len() - 2);
+    let earlier = 1 + random.index(later - 1);
+    spoil_record(random, list, later, second);
+    spoil_record(random, list, earlier, first);
+}
 
-    /// The numbers of a case's faults.
-    fn numbers(case: &LineCase) -> Vec<u8> {
-        let length = usize::from(case.call.length);
-        line_faults(&case.state, &case.call.list, length)
-            .iter()
-            .map(|fault| fault.number)
-            .collect()
-    }
+/// A fault of reading.
+#[derive(Clone, Copy, Debug, PartialEq, Eq)]
+pub enum ReadingFault {
+    Empty,
+    Version,
+    PlaceZero,
+    PastEnd,
+    LoneByte,
+    Length,
+    Cut,
+}
 
-    /// A call without faults.
-    fn good_case(random: &mut Random) -> LineCase {
-        let case = LineCase {
-            state: line_start_state(random),
-            call: Call::with(&free_list(random)),
-        };
-        assert_eq!(numbers(&case), []);
-        case
-    }
+impl ReadingFault {
+    /// Every fault.
+    pub const ALL: [ReadingFault; 7] = [
+        ReadingFault::Empty,
+        ReadingFault::Version,
+        ReadingFault::PlaceZero,
+        ReadingFault::PastEnd,
+        ReadingFault::LoneByte,
+        ReadingFault::Length,
+        ReadingFault::Cut,
+    ];
+}
 
-    #[test]
-    fn spoilt_calls_have_the_fault_and_none_before_it() {
-        let mut random = Random::new(42);
-        for fault in 1..=7 {
-            for _ in 0..200 {
-                let mut case = good_case(&mut random);
-                spoil(&mut random, &mut case, fault);
-                assert!(numbers(&case).contains(&fault));
-                assert!((1..fault.min(5)).all(|lower| !numbers(&case).contains(&lower)));
-                assert!(case.call.list.len() <= 699);
-            }
+/// Gives a call at a line that has writes a fault of reading.
+pub fn spoil_reading(random: &mut Random, case: &mut TapeCase, fault: ReadingFault) {
+    let writes = stretch(&case.tape, case.place).len();
+    let place = case.place as usize;
+    match fault {
+        ReadingFault::Empty => case.tape.clear(),
+        ReadingFault::Version => case.tape[0] = other_version(random),
+        ReadingFault::PlaceZero => case.place = 0,
+        ReadingFault::PastEnd => {
+            case.place = random.pick(&places_past_the_end(&case.tape, case.place));
+        }
+        ReadingFault::LoneByte => case.tape.truncate(place + 1),
+        ReadingFault::Length => {
+            let length = random.pick(&BAD_LENGTHS);
+            set_length(&mut case.tape, case.place, length);
+        }
+        ReadingFault::Cut => {
+            let any = random.index(writes);
+            case.tape
+                .truncate(place + 2 + random.pick(&[0, any, writes - 1]));
         }
     }
+}
 
-    #[test]
-    fn faults_come_together() {
-        let mut random = Random::new(44);
-        for _ in 0..200 {
-            let mut case = good_case(&mut random);
-            for fault in [2, 4, 7, 3, 5, 1] {
-                spoil(&mut random, &mut case, fault);
-            }
-            let numbers = numbers(&case);
-            assert!([1, 2, 3, 4, 5].iter().all(|fault| numbers.contains(fault)));
-        }
+/// A version byte that is not 1.
+pub fn other_version(random: &mut Random) -> u8 {
+    let any = random.byte();
+    match random.pick(&[0, 2, 255, any]) {
+        VERSION => 0,
+        version => version,
     }
+}
 
-    #[test]
-    fn the_earlier_of_two_bad_records_has_the_first_fault() {
-        let mut random = Random::new(46);
-        for first in 5..=7 {
-            for second in 5..=7 {
-                let mut case = good_case(&mut random);
-                let mut list = short_list(&mut random);
-                spoil_two_records(&mut random, &mut list, first, second);
-                case.call.list = list_of(&list);
-                let numbers = numbers(&case);
-                assert_eq!(numbers[0], first);
-                assert!(numbers[1..].contains(&second));
-            }
-        }
+/// Places past the end of a tape: next to it, near 2^63 and the largest number, and some whose
+/// lower bits are this place.
+pub fn places_past_the_end(tape: &[u8], place: u64) -> Vec<u64> {
+    let end = tape.len() as u64;
+    let half = 1 << 63;
+    let mut places = vec![end + 1, end + 2, end + 3, half - 1, half, half + 1];
+    for bits in [8, 16, 31, 32, 33, 48, 62, 63] {
+        places.push((1 << bits) + place);
     }
+    places.extend([u64::MAX - end, u64::MAX - 2, u64::MAX - 1, u64::MAX]);
+    places.retain(|&place| place > end);
+    places
+}
 
-    #[test]
-    fn lists_are_resized() {
-        let mut random = Random::new(45);
-        for length in [0, 1, 2, 3, 100, 684, 699] {
-            let mut list = vec![7; 30];
-            resize(&mut random, &mut list, length);
-            assert_eq!(list.len(), length);
-            assert!(list.iter().take(30).all(|&byte| byte == 7));
-        }
-    }
+/// Makes the two bytes at a place of a tape this length.
+pub fn set_length(tape: &mut [u8], place: u64, length: u16) {
+    let place = place as usize;
+    tape[place..place + 2].copy_from_slice(&length.to_be_bytes());
 }

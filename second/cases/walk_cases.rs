@@ -1,100 +1,64 @@
 //! The walks of the case file: from the start state, from good states and from bad ones, with
-//! writes spread over their clocks.
+//! writes spread over their clocks, chosen so that objects show and move.
 
-use crate::cases::generated::{WaitedWrite, Walk, WALKS};
+use crate::cases::build_lists::address_of;
+use crate::cases::case::{WaitedWrite, Walk};
 use crate::cases::random::Random;
+use crate::cases::random_lists::{showing_write, unknown_addresses, OPENING};
 use crate::cases::random_states::{bad_state, edge_state, even_state};
-use crate::cases::random_writes::{showing_write, WalkWrites, OPENING};
+use crate::model::clock::RegisterWrite;
+use crate::model::registers::{Register, KNOWN};
 use crate::model::state::State;
 use std::array;
 
-/// How a walk's writes lie: spread evenly, in bursts, or far apart.
-#[derive(Clone, Copy)]
-enum Pace {
-    Even,
-    Bursts,
-    Slow,
-}
-
-impl Pace {
-    /// The wait before a write.
-    fn wait(self, random: &mut Random) -> u8 {
-        match self {
-            Pace::Even => random.up_to(28),
-            Pace::Bursts if random.one_in(4) => random.between(30, 70),
-            Pace::Bursts => random.up_to(3),
-            Pace::Slow => random.byte(),
-        }
-    }
-}
-
-/// The walks: of each 40, 13 from the start state, 16 from states drawn towards the edges, 10
+/// So many walks: of each 40, 13 from the start state, 16 from states drawn towards the edges, 10
 /// from states drawn evenly and one from a bad state.
-pub fn generate(random: &mut Random) -> Vec<Walk> {
-    let mut writes = WalkWrites::new();
+pub fn generate(random: &mut Random, number: usize) -> Vec<Walk> {
+    let mut unknown = unknown_addresses().into_iter().cycle();
     let mut walks = Vec::new();
-    for n in 0..WALKS {
-        let walk = match n % 40 {
-            0..=12 => walk_from_start(random, &mut writes),
-            13..=28 => walk_from(edge_state(random), random, &mut writes),
-            29..=38 => walk_from(even_state(random), random, &mut writes),
-            _ => walk_from(bad_state(random), random, &mut writes),
+    for n in 0..number {
+        let state = match n % 40 {
+            0..=12 => State::START,
+            13..=28 => edge_state(random),
+            29..=38 => even_state(random),
+            _ => bad_state(random),
         };
-        walks.push(walk);
+        walks.push(walk_from(random, state, &mut unknown));
     }
     walks
 }
 
-/// A walk from a state.
-fn walk_from(state: State, random: &mut Random, writes: &mut WalkWrites) -> Walk {
-    let pace = match random.up_to(15) {
-        0 => Pace::Slow,
-        1..=4 => Pace::Bursts,
-        _ => Pace::Even,
-    };
-    Walk {
-        state,
-        writes: array::from_fn(|_| WaitedWrite {
-            wait: pace.wait(random),
-            write: writes.next(random),
-        }),
-    }
-}
-
-/// A walk from the start state, opened by writes that make objects show.
-fn walk_from_start(random: &mut Random, writes: &mut WalkWrites) -> Walk {
-    let mut walk = walk_from(State::START, random, writes);
-    for (waited, address) in walk.writes.iter_mut().zip(OPENING) {
-        *waited = WaitedWrite {
+/// A walk from a state; from the start state it is opened by writes that make objects show. The
+/// writes lie far apart, in bursts, or mostly spread evenly.
+fn walk_from(random: &mut Random, state: State, unknown: &mut dyn Iterator<Item = u8>) -> Walk {
+    let pace = random.up_to(15);
+    let opening: &[u8] = if state == State::START { &OPENING } else { &[] };
+    let writes = array::from_fn(|n| match opening.get(n) {
+        Some(&address) => WaitedWrite {
             wait: random.up_to(3),
             write: showing_write(random, address),
-        };
-    }
-    walk
+        },
+        None => WaitedWrite {
+            wait: match pace {
+                0 => random.byte(),
+                1..=4 if random.one_in(4) => random.between(30, 70),
+                1..=4 => random.up_to(3),
+                _ => random.up_to(28),
+            },
+            write: walk_write(random, unknown),
+        },
+    });
+    Walk { state, writes }
 }
 
-#[cfg(test)]
-mod tests {
-    use super::*;
-
-    #[test]
-    fn there_are_320_from_the_start_state_from_good_and_from_bad_states() {
-        let walks = generate(&mut Random::new(11));
-        assert_eq!(walks.len(), 320);
-        let bad = walks.iter().filter(|walk| walk.state.check().is_err());
-        assert_eq!(bad.count(), 8);
-        let start = walks.iter().filter(|walk| walk.state == State::START);
-        assert_eq!(start.count(), 104);
-    }
-
-    #[test]
-    fn most_writes_are_reached() {
-        let walks = generate(&mut Random::new(12));
-        let reached: usize = walks
-            .iter()
-            .map(|walk| walk.writes_by_clock().iter().flatten().count())
-            .sum();
-        assert!(reached > 50 * walks.len(), "{}", reached);
-        assert!(reached < 64 * walks.len());
-    }
+/// A write of a walk: one in ten to HMOVE, one in thirteen to the next unknown address, the others
+/// to any known register.
+fn walk_write(random: &mut Random, unknown: &mut dyn Iterator<Item = u8>) -> RegisterWrite {
+    let (any, _, _) = random.pick(&KNOWN);
+    let address = match random.up_to(129) {
+        0..=12 => address_of(Register::Hmove),
+        13..=22 => unknown.next().unwrap_or(0),
+        _ => any,
+    };
+    showing_write(random, address)
 }

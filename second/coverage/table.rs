@@ -1,216 +1,131 @@
-//! Coverage: a table of named things that the cases must make happen, and the counting of those
-//! that happen on a clock while every single clock and walk is run on the chip.
+//! The table of what the cases must make happen: a row has a name, how often it must happen, and
+//! when it counts.
 
-use crate::cases::generated::{Cases, Walk};
-use crate::model::clock::{run, Done, RegisterWrite};
-use crate::model::refusal::Refusal;
-use crate::model::registers::Register;
-use crate::model::state::State;
+use crate::coverage::seen::{Kind, Seen, PREFIXES};
+use crate::model::object::{BL, M0, M1, NAMES, P0, P1, PF};
+use std::fmt::Display;
 
-/// Where a clock stands: a single one, or in a walk, with whether HMOVE was written before it
-/// in that walk.
-#[derive(Clone, Copy, Debug, PartialEq, Eq)]
-pub enum Place {
-    Single,
-    Walk { hmove_before: bool },
+/// How often a thing must happen if nothing else is said.
+pub const FEW: u32 = 5;
+
+/// An object with its name.
+const fn of(object: usize) -> (&'static str, usize) {
+    (NAMES[object], object)
 }
 
-impl Place {
-    /// Whether the clock stands in a walk.
-    pub fn is_walk(self) -> bool {
-        self != Place::Single
-    }
+/// Objects with their names: the players, those that move, all.
+pub const PLAYERS: [(&str, usize); 2] = [of(P0), of(P1)];
+pub const MOVABLE: [(&str, usize); 5] = [of(P0), of(P1), of(M0), of(M1), of(BL)];
+pub const OBJECTS: [(&str, usize); 6] = [of(P0), of(P1), of(M0), of(M1), of(BL), of(PF)];
+
+/// Both values of a flag with their names.
+pub const FLAGS: [(&str, bool); 2] = [("false", false), ("true", true)];
+
+/// Values with themselves as names.
+pub fn named<T: Copy + Display>(values: impl IntoIterator<Item = T>) -> Vec<(T, T)> {
+    values.into_iter().map(|value| (value, value)).collect()
 }
 
-/// A clock that was run: what it was given and what came of it.
-pub struct Seen {
-    pub place: Place,
-    pub given: State,
-    pub write: Option<RegisterWrite>,
-    pub outcome: Result<Done, Refusal>,
-}
-
-/// A thing that must happen: its name, how often it is still missing, and whether it happens on
-/// what is seen.
-struct Entry<T> {
+/// A row: its name, how often it must still happen, and when it counts.
+struct Row {
     name: String,
-    missing: u32,
-    happens: Box<dyn Fn(&T) -> bool>,
+    times: u32,
+    counts: Box<dyn Fn(&Seen) -> bool>,
 }
 
-/// The things that have not yet happened often enough.
-pub struct Table<T> {
-    entries: Vec<Entry<T>>,
+/// The rows that have not yet happened often enough, by the kind that they are asked of: accepted
+/// clocks, refused clocks, lines, runs, tapes.
+pub struct Table {
+    pub rows: [Rows; 5],
 }
 
-impl<T> Table<T> {
-    /// The table without entries.
-    pub fn new() -> Table<T> {
-        Table {
-            entries: Vec::new(),
-        }
-    }
-
-    /// Adds a thing that must happen so often.
-    pub fn add(&mut self, times: u32, name: &str, happens: impl Fn(&T) -> bool + 'static) {
-        self.entries.push(Entry {
-            name: name.to_string(),
-            missing: times,
-            happens: Box::new(happens),
-        });
-    }
-
-    /// Counts what is seen: an entry that has happened often enough leaves the table.
-    pub fn see(&mut self, seen: &T) {
-        self.entries.retain_mut(|entry| {
-            if (entry.happens)(seen) {
-                entry.missing -= 1;
-            }
-            entry.missing > 0
-        });
-    }
-
-    /// A line for each entry left, with how often it must still happen; empty if none is left.
-    pub fn missing(&self) -> String {
-        let mut text = String::new();
-        for entry in &self.entries {
-            text += &format!("missing: {} ({} more)\n", entry.name, entry.missing);
-        }
-        text
-    }
-}
-
-impl Table<Seen> {
-    /// Adds a thing that must happen so often on accepted clocks.
-    pub fn accepted(
-        &mut self,
-        times: u32,
-        name: &str,
-        happens: impl Fn(&Seen, &Done) -> bool + 'static,
-    ) {
-        self.add(times, name, move |seen| match &seen.outcome {
-            Ok(done) => happens(seen, done),
-            Err(_) => false,
-        });
-    }
-
-    /// Adds a thing that must happen so often on refused clocks; it is asked with the number.
-    pub fn refused(
-        &mut self,
-        times: u32,
-        name: &str,
-        happens: impl Fn(&Seen, u8) -> bool + 'static,
-    ) {
-        self.add(times, name, move |seen| match seen.outcome {
-            Ok(_) => false,
-            Err(refusal) => happens(seen, refusal.number),
-        });
-    }
-
-    /// Counts all clocks of the single clocks and walks.
-    pub fn count(&mut self, cases: &Cases) {
-        for single in &cases.singles {
-            self.see(&Seen {
-                place: Place::Single,
-                given: single.state,
-                write: single.write,
-                outcome: run(&single.state, single.write),
-            });
-        }
-        for walk in &cases.walks {
-            self.count_walk(walk);
-        }
-    }
-
-    /// Counts the clocks of a walk.
-    fn count_walk(&mut self, walk: &Walk) {
-        let mut state = walk.state;
-        let mut hmove_before = false;
-        for write in walk.writes_by_clock() {
-            let outcome = run(&state, write);
-            self.see(&Seen {
-                place: Place::Walk { hmove_before },
-                given: state,
-                write,
-                outcome,
-            });
-            if let Ok(done) = outcome {
-                state = done.state;
-                hmove_before |= done.register == Some(Register::Hmove);
-            }
-        }
-    }
-}
-
-#[cfg(test)]
-mod tests {
-    use super::*;
-    use crate::cases::generated::{Single, WaitedWrite, WALK_WRITES};
-
-    /// Cases of one single clock without a write and one walk: HMOVE at clock 0, the unknown
-    /// register 0 at clocks 11, 22 and so on.
-    fn few_cases() -> Cases {
-        let mut writes = [WaitedWrite {
-            wait: 10,
-            write: RegisterWrite {
-                address: 0,
-                value: 0,
-            },
-        }; WALK_WRITES];
-        writes[0] = WaitedWrite {
-            wait: 0,
-            write: RegisterWrite {
-                address: 0x2A,
-                value: 0,
-            },
+impl Table {
+    /// The table without rows.
+    pub fn new() -> Table {
+        let rows = |prefix| Rows {
+            prefix,
+            rows: vec![],
         };
-        Cases {
-            singles: vec![Single {
-                state: State::START,
-                write: None,
-            }],
-            walks: vec![Walk {
-                state: State::START,
-                writes,
-            }],
-            lines: vec![],
-            runs: vec![],
-            tapes: vec![],
+        Table {
+            rows: PREFIXES.map(rows),
         }
     }
 
-    /// What is missing of a thing on accepted clocks after the few cases.
-    fn missing(times: u32, happens: impl Fn(&Seen, &Done) -> bool + 'static) -> String {
-        let mut table = Table::new();
-        table.accepted(times, "thing", happens);
-        table.count(&few_cases());
-        table.missing()
+    /// Whether rows that are asked of one of these kinds are left.
+    pub fn asks(&self, kinds: &[Kind]) -> bool {
+        let left = |&kind: &Kind| !self.rows[kind as usize].rows.is_empty();
+        kinds.iter().any(left)
     }
 
-    #[test]
-    fn accepted_clocks_are_counted() {
-        assert_eq!(missing(1, |seen, _| !seen.place.is_walk()), "");
-        let two = missing(2, |seen, _| !seen.place.is_walk());
-        assert_eq!(two, "missing: thing (1 more)\n");
-        assert_eq!(missing(937, |seen, _| seen.place.is_walk()), "");
-        let one_more = missing(938, |seen, _| seen.place.is_walk());
-        assert_eq!(one_more, "missing: thing (1 more)\n");
+    /// Counts what is seen: a row that has happened often enough leaves the table.
+    pub fn see(&mut self, seen: &Seen) {
+        self.rows[seen.kind as usize].rows.retain_mut(|row| {
+            row.times -= u32::from((row.counts)(seen));
+            row.times > 0
+        });
     }
 
-    #[test]
-    fn refused_clocks_are_counted() {
-        for (times, expected) in [(63, ""), (64, "missing: thing (1 more)\n")] {
-            let mut table = Table::new();
-            table.refused(times, "thing", |_, number| number == 7);
-            table.count(&few_cases());
-            assert_eq!(table.missing(), expected);
+    /// A line for each row that is left, made of its name and how often it must still happen.
+    pub fn text(&self, line: fn(&str, u32) -> String) -> String {
+        let rows = self.rows.iter().flat_map(|rows| &rows.rows);
+        rows.map(|row| line(&row.name, row.times)).collect()
+    }
+}
+
+/// The rows that are asked of a kind, and what their names begin with.
+pub struct Rows {
+    prefix: &'static str,
+    rows: Vec<Row>,
+}
+
+impl Rows {
+    /// A row that must happen so often.
+    pub fn row(&mut self, times: u32, name: &str) -> Named<'_> {
+        let name = format!("{}{}", self.prefix, name);
+        Named(&mut self.rows, name, times)
+    }
+
+    /// A row for each of the values; `{}` in the name stands for the value's name.
+    pub fn each<T>(
+        &mut self,
+        times: u32,
+        name: &str,
+        values: impl IntoIterator<Item = (impl Display, T)>,
+    ) -> Each<'_, T> {
+        let name = format!("{}{}", self.prefix, name);
+        let name_of = |value: String| name.replace("{}", &value);
+        let names = values
+            .into_iter()
+            .map(|(of, value)| (name_of(of.to_string()), value));
+        Each(names.collect(), &mut self.rows, times)
+    }
+}
+
+/// A row that lacks only when it counts: the rows that it goes to, its name, how often it must
+/// happen.
+pub struct Named<'a>(&'a mut Vec<Row>, String, u32);
+
+impl Named<'_> {
+    /// Adds the row, with when it counts.
+    pub fn when(self, counts: impl Fn(&Seen) -> bool + 'static) {
+        let Named(rows, name, times) = self;
+        rows.push(Row {
+            name,
+            times,
+            counts: Box::new(counts),
+        });
+    }
+}
+
+/// Rows for several values that lack only when they count.
+pub struct Each<'a, T>(Vec<(String, T)>, &'a mut Vec<Row>, u32);
+
+impl<T: Copy + 'static> Each<'_, T> {
+    /// Adds the rows, with when they count for a value.
+    pub fn when(self, counts: impl Fn(&Seen, T) -> bool + Copy + 'static) {
+        let Each(names, rows, times) = self;
+        for (name, value) in names {
+            Named(rows, name, times).when(move |seen| counts(seen, value));
         }
-    }
-
-    #[test]
-    fn a_walk_knows_whether_hmove_was_written_before() {
-        let before = |seen: &Seen, _: &Done| seen.place == Place::Walk { hmove_before: true };
-        assert_eq!(missing(936, before), "");
-        assert_ne!(missing(937, before), "");
     }
 }

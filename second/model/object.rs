@@ -1,5 +1,5 @@
-//! The five objects: an object's position, age, motion value and live flag, its pulse and its
-//! strobe (steps 6 and 7), its starts, and the slot at which its motion ends.
+//! The five objects: an object's position, age, motion value and live flag, the slot at which its
+//! motion ends (step 4), its pulse, its starts and a player's sizes (step 6).
 
 /// The objects by number: the number of the object's bit in the answer byte. PF is the playfield.
 pub const P0: usize = 0;
@@ -78,87 +78,5 @@ pub fn size_of_copies(copies: u8) -> u8 {
         5 => 2,
         7 => 4,
         _ => 1,
-    }
-}
-
-#[cfg(test)]
-mod tests {
-    use super::*;
-
-    /// An object at this position with this age.
-    fn at(position: u8, age: u8) -> Object {
-        Object {
-            position,
-            age,
-            ..Object::START
-        }
-    }
-
-    #[test]
-    fn a_pulse_raises_position_and_age() {
-        assert_eq!(at(0, 0).pulsed(), at(1, 1));
-        assert_eq!(at(158, 62).pulsed(), at(159, 63));
-        assert_eq!(at(159, 63).pulsed(), at(0, 64));
-        assert_eq!(at(15, 64).pulsed(), at(16, 64));
-        let moving = Object {
-            motion: 9,
-            live: true,
-            ..at(7, 3)
-        };
-        let expected = Object {
-            position: 8,
-            age: 4,
-            ..moving
-        };
-        assert_eq!(moving.pulsed(), expected);
-    }
-
-    #[test]
-    fn ranges_end_at_159_64_and_15() {
-        let last = Object {
-            motion: 15,
-            ..at(159, 64)
-        };
-        assert!(last.in_range());
-        for field in 0..3 {
-            let mut beyond = last;
-            match field {
-                0 => beyond.position = 160,
-                1 => beyond.age = 65,
-                _ => beyond.motion = 16,
-            }
-            assert!(!beyond.in_range());
-        }
-    }
-
-    // Bench check: extra pulses for half bytes 0, 7, 8, 15: 8, 15, 0, 7.
-    #[test]
-    fn bench_extra_pulses_are_the_slots_before_the_end_slot() {
-        let cases = [(0, 8), (7, 15), (8, 0), (15, 7), (1, 9), (9, 1)];
-        for (motion, slot) in cases {
-            let object = Object {
-                motion,
-                ..Object::START
-            };
-            assert_eq!(object.end_slot(), slot);
-        }
-    }
-
-    #[test]
-    fn starts_of_every_position_and_copies() {
-        let further: [&[u8]; 8] = [&[], &[16], &[32], &[16, 32], &[64], &[], &[32, 64], &[]];
-        for position in 0..160 {
-            assert_eq!(is_start(position, None), position == 0);
-            for copies in 0..8 {
-                let expected = position == 0 || further[usize::from(copies)].contains(&position);
-                assert_eq!(is_start(position, Some(copies)), expected);
-            }
-        }
-    }
-
-    #[test]
-    fn sizes_of_every_copies() {
-        let sizes: Vec<u8> = (0..8).map(size_of_copies).collect();
-        assert_eq!(sizes, [1, 1, 1, 1, 1, 2, 1, 4]);
     }
 }

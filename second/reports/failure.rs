@@ -15,14 +15,3 @@ impl From<io::Error> for Failure {
         Failure::WriteError
     }
 }
-
-#[cfg(test)]
-mod tests {
-    use super::*;
-
-    #[test]
-    fn an_error_of_writing_is_a_write_error() {
-        let error = io::Error::from(io::ErrorKind::BrokenPipe);
-        assert_eq!(Failure::from(error), Failure::WriteError);
-    }
-}

@@ -6,6 +6,5 @@ pub mod demand3;
 pub mod demand3_report;
 pub mod digest;
 pub mod failure;
-pub mod line_report;
 pub mod repeat_line;
-pub mod tape_report;
+pub mod texts;

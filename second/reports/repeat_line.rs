@@ -45,143 +45,50 @@ fn repeat_line(count: u32, list: &[u8]) -> [u8; COLUMNS] {
 #[cfg(test)]
 mod tests {
     use super::*;
-    use crate::cases::random::Random;
-    use crate::cases::random_lists::{free_list, list_of_length};
-    use crate::model::write_list::list_of;
-    use crate::tests::giving::Giving;
 
     /// Playfield lit, missile 0 enabled and moved eight columns right by HMOVE in every line.
     const MOVING: [u8; 15] = [
         0, 0x1D, 2, 1, 0x22, 0x80, 9, 0x2A, 0, 70, 0x0E, 0x81, 100, 0x0F, 3,
     ];
 
-    /// An input: this count, then this list.
-    fn input_of(count: u32, list: &[u8]) -> Vec<u8> {
-        [&count.to_be_bytes()[..], list].concat()
-    }
-
-    /// What is written for an input of these bytes.
-    fn written(input: &[u8]) -> Vec<u8> {
+    /// What is written for an input of this count and this list.
+    fn written(count: u32, list: &[u8]) -> Vec<u8> {
+        let input = [&count.to_be_bytes()[..], list].concat();
         let mut out = Vec::new();
         write(&mut &input[..], &mut out).unwrap();
         out
     }
 
-    /// The buffers after one, two and three line calls in a chain from the start state.
-    fn chain_of_three(list: &[u8]) -> [[u8; 160]; 3] {
+    #[test]
+    fn calls_are_a_chain_from_the_start_state() {
         let mut buffers = [[0; 160]; 3];
-        let first = line(&State::START, list, &mut buffers[0]);
-        let second = line(&first.state, list, &mut buffers[1]);
-        let third = line(&second.state, list, &mut buffers[2]);
-        assert_eq!([first.number, second.number, third.number], [0; 3]);
-        buffers
-    }
-
-    #[test]
-    fn no_call_leaves_zeros() {
-        for list in [&[][..], &MOVING, &[228, 0, 0], &[1; 687]] {
-            assert_eq!(written(&input_of(0, list)), [0; 160]);
+        let mut state = State::START;
+        for (count, buffer) in (1..).zip(&mut buffers) {
+            let answer = line(&state, &MOVING, buffer);
+            state = answer.state;
+            assert_eq!(answer.number, 0);
+            assert_eq!(written(count, &MOVING), *buffer);
         }
-    }
-
-    #[test]
-    fn one_call_is_the_line_call_and_three_are_a_chain() {
-        let mut random = Random::new(101);
-        let mut lists = vec![vec![], MOVING.to_vec()];
-        lists.extend((0..10).map(|_| list_of(&free_list(&mut random))));
-        for list in lists {
-            for (count, buffer) in (1..).zip(chain_of_three(&list)) {
-                assert_eq!(written(&input_of(count, &list)), buffer);
-            }
-        }
-    }
-
-    #[test]
-    fn later_calls_show_other_bytes() {
-        let [first, second, third] = chain_of_three(&MOVING);
-        assert!(first != second && second != third && third != first);
-        assert_eq!(repeat_line(3, &MOVING), third);
-    }
-
-    #[test]
-    fn the_count_is_four_bytes_the_highest_first() {
-        let counted = |bytes: &[u8]| count_and_list(bytes).0;
-        assert_eq!(counted(&[1, 2, 3, 4]), 0x0102_0304);
-        assert_eq!(counted(&[255, 255, 255, 255, 9]), u32::MAX);
-        assert_eq!(counted(&[0, 0, 1, 0, 9, 0x2A, 0]), 256);
-        let whole = repeat_line(258, &MOVING);
-        assert_eq!(written(&input_of(258, &MOVING)), whole);
-        assert!(whole != repeat_line(2, &MOVING));
-    }
-
-    #[test]
-    fn the_list_is_all_that_follows() {
-        assert_eq!(count_and_list(&[0, 0, 0, 7]), (7, &[][..]));
-        assert_eq!(count_and_list(&[0, 0, 0, 7, 8, 9]), (7, &[8, 9][..]));
-        let longest = list_of(&list_of_length(&mut Random::new(102), 228));
-        let [first, ..] = chain_of_three(&longest);
-        assert_eq!(longest.len(), 684);
-        assert_eq!(written(&input_of(1, &longest)), first);
-        assert!(first != [0; 160]);
-    }
-
-    #[test]
-    fn fewer_than_four_bytes_are_no_call() {
-        for length in 0..4 {
-            let input = vec![255; length];
-            assert_eq!(count_and_list(&input), (0, &[][..]));
-            assert_eq!(written(&input), [0; 160]);
-        }
+        assert!(buffers[0] != buffers[1] && buffers[1] != buffers[2]);
+        assert_eq!(written(0, &MOVING), [0; 160]);
+        assert_ne!(written(258, &MOVING), written(2, &MOVING));
     }
 
     #[test]
     fn refused_calls_leave_zeros() {
-        let lit = [0, 0x0D, 255, 1, 0x0E, 255, 2, 0x0F, 255];
-        assert!(repeat_line(1, &lit) != [0; 160]);
-        for bad in [&[9][..], &[228, 4, 0], &[2, 4, 0], &[9, 0, 0]] {
-            let list = [&lit[..], bad].concat();
-            for count in [1, 2, 5] {
-                assert_eq!(written(&input_of(count, &list)), [0; 160]);
-            }
-        }
-    }
-
-    #[test]
-    fn lists_over_684_bytes_are_refused_and_at_most_691_bytes_read() {
         let longest: Vec<u8> = (0..228).flat_map(|clock| [clock, 0x0E, 255]).collect();
-        assert!(written(&input_of(1, &longest)) != [0; 160]);
-        for more in [1, 2, 3, 4, 5, 6, 100_000] {
-            let mut list = longest.clone();
-            list.resize(684 + more, 0);
-            let input = input_of(2, &list);
-            assert_eq!(written(&input), [0; 160]);
-            let mut left = &input[..];
-            write(&mut left, &mut Vec::new()).unwrap();
-            assert_eq!(left.len(), input.len() - input.len().min(691));
+        assert_ne!(written(1, &longest), [0; 160]);
+        for more in [&[9][..], &[9, 0, 0], &[0; 7], &[0; 100_000]] {
+            assert_eq!(written(2, &[&longest[..], more].concat()), [0; 160]);
         }
+        assert_eq!(written(5, &[0, 0x0D, 255, 9, 0, 0]), [0; 160]);
     }
 
     #[test]
-    fn short_reads_and_a_read_error_at_the_end_change_nothing() {
-        let whole = repeat_line(2, &MOVING);
-        for (at_once, fails) in [(1, false), (3, true), (19, true)] {
-            let mut input = Giving {
-                bytes: &input_of(2, &MOVING),
-                at_once,
-                fails,
-            };
-            let mut out = Vec::new();
-            write(&mut input, &mut out).unwrap();
-            assert_eq!(out, whole);
-        }
-    }
-
-    #[test]
-    fn a_write_error_ends_the_bytes() {
-        for room in [0, 159] {
-            let mut room = vec![0; room];
-            let input = input_of(1, &MOVING);
-            assert!(write(&mut &input[..], &mut room.as_mut_slice()).is_err());
+    fn fewer_than_four_bytes_are_no_call() {
+        assert_eq!(count_and_list(&[0, 0, 0, 7, 8, 9]), (7, &[8, 9][..]));
+        for length in 0..4 {
+            assert_eq!(count_and_list(&vec![255; length]), (0, &[][..]));
         }
     }
 }

@@ -1,5 +1,19 @@
-//! Tests of the model.
+//! Tests of the model, a file for each subject; each test stands under the sentence of the paper
+//! that it holds the model to.
 
 pub mod giving;
-pub mod played_lines;
-pub mod slips;
+pub mod playing;
+
+mod bench;
+mod clock;
+mod counter;
+mod first_lit;
+mod latches;
+mod line;
+mod listing;
+mod lit;
+mod registers;
+mod replay;
+mod slips;
+mod state;
+mod tape;

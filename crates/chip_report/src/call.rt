@@ -3,15 +3,15 @@ ghost use Prim.Native.Nat.{_≤_};
 ghost use lib.ListN.{length};
 use libc::STDIN_FILENO;
 
-// The longest list.
-pub(crate) const LONGEST: usize = 699;
+// The room for a list or a tape: the longest that a case may have.
+const LONGEST: usize = 4096;
 
-// A length of two bytes, the higher first; at most the longest.
-pub(crate) fn length_of(high: u8, low: u8, longest: usize) -> usize
-    ensures { λ r. ⌜ r ≤ longest ⌝ }
+// The length of a list or a tape, of two bytes, the higher first.
+pub(crate) fn length_of(high: u8, low: u8) -> usize
+    ensures { λ r. ⌜ r ≤ 4096 ⌝ }
 {
     let length = high as usize * 256 + low as usize;
-    if length < longest { length } else { longest }
+    if length < LONGEST { length } else { LONGEST }
 }
 
 // The length of a buffer, of one byte.

@@ -1,11 +1,11 @@
 // The row of a line call.
-use crate::call::LONGEST;
 use crate::call::fill;
 use crate::call::length_of;
 use crate::call::lent_of;
 use crate::call::read_part;
 use crate::digest::with_bytes;
 use crate::output::decimal;
+use crate::output::heading;
 use crate::output::hex;
 use crate::output::number;
 use crate::output::text;
@@ -37,11 +37,11 @@ fn columns(buffer: &[u8]) {
 }
 
 // A line call with a lent buffer: its answer, the digests of its state and its buffer, and the first lit columns.
-fn called(record: &[u8; 64], list: &[u8], buffer: &mut [u8], first: u8) {
-    fill(buffer, first);
+fn called(n: u32, record: &[u8; 64], list: &[u8], buffer: &mut [u8]) {
+    fill(buffer, (n % 256) as u8);
     let answer = tia::line(state_from(record), list, buffer);
     let state = answer.state;
-    text(b"line ");
+    heading(b"line ", n);
     decimal(answer.number);
     decimal(answer.index);
     hex(with_bytes(0, &bytes_of(state)));
@@ -52,18 +52,13 @@ fn called(record: &[u8; 64], list: &[u8], buffer: &mut [u8], first: u8) {
 }
 
 // The row of a line call. Its list follows its record.
-pub(crate) fn row(place: u32, record: &[u8; 64]) {
-    let mut space = [0u8; 699];
-    let length = length_of(record[62], record[63], LONGEST);
+pub(crate) fn row(n: u32, record: &[u8; 64]) {
+    let mut space = [0u8; 4096];
+    let length = length_of(record[62], record[63]);
     read_part(&mut space, length);
     let list: &[u8] = &space;
     let mut room = [0u8; 255];
     let buffer: &mut [u8] = &mut room;
     let lent = lent_of(record[61]);
-    called(
-        record,
-        &list[0..length],
-        &mut buffer[0..lent],
-        (place % 256) as u8,
-    );
+    called(n, record, &list[0..length], &mut buffer[0..lent]);
 }

@@ -12,42 +12,40 @@ mod walk;
 
 use libc::STDIN_FILENO;
 
-// The kinds of case.
-enum Kind {
-    Single,
-    Walk,
-    Line,
-    Run,
-    Tape,
-}
+// The most cases that are answered.
+const MOST: u32 = 1000000;
 
-// The row of a case.
-fn row(kind: Kind, place: u32, record: &[u8; 64]) {
+// The row of a case by its kind: its number among all cases, then its answer. Whether there is such a kind.
+fn row(kind: u8, number: u32, record: &[u8; 64]) -> bool {
     match kind {
-        Kind::Single => single::row(record),
-        Kind::Walk => walk::row(place, record),
-        Kind::Line => line::row(place, record),
-        Kind::Run => run::row(place, record),
-        Kind::Tape => tape_line::row(place, record),
+        0 => single::row(number, record),
+        1 => walk::row(number, record),
+        2 => line::row(number, record),
+        3 => run::row(number, record),
+        4 => tape_line::row(number, record),
+        _ => return false,
     }
+    true
 }
 
-// A row for each of so many cases of a kind, as far as standard input goes.
-fn rows(kind: Kind, count: u32) {
-    for place in 0..count {
-        let mut record = [0u8; 64];
-        if io::read_full(STDIN_FILENO, &mut record) < 64 {
-            return;
-        }
-        row(kind, place, &record);
+// The row of the next case. Whether there was one: not at the end of standard input, nor at an unknown kind.
+fn next(number: u32) -> bool {
+    let mut kind = [0u8; 1];
+    let mut record = [0u8; 64];
+    if io::read_full(STDIN_FILENO, &mut kind) < 1 {
+        return false;
     }
+    if io::read_full(STDIN_FILENO, &mut record) < 64 {
+        return false;
+    }
+    row(kind[0], number, &record)
 }
 
 // A row for each case.
 fn main() {
-    rows(Kind::Single, 3200);
-    rows(Kind::Walk, 320);
-    rows(Kind::Line, 3200);
-    rows(Kind::Run, 300);
-    rows(Kind::Tape, 2400);
+    for number in 0..MOST {
+        if !next(number) {
+            return;
+        }
+    }
 }

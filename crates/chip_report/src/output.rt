@@ -17,6 +17,13 @@ pub(crate) fn decimal(n: u8) {
     text(b" ");
 }
 
+// The beginning of a row: the kind of its case, the case's number, and a space.
+pub(crate) fn heading(kind: &[u8], n: u32) {
+    text(kind);
+    number(n);
+    text(b" ");
+}
+
 // A place in decimal, and a space.
 pub(crate) fn place(n: usize) {
     io::print_decimal(STDOUT_FILENO, n as u64);

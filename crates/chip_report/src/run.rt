@@ -1,13 +1,12 @@
 // The row of a run: 24 line calls in a chain, two without writes before and after the 20 of the record.
-use crate::call::LONGEST;
 use crate::call::fill;
 use crate::call::length_of;
 use crate::call::lent_of;
 use crate::call::read_part;
 use crate::digest::with_byte;
 use crate::digest::with_bytes;
+use crate::output::heading;
 use crate::output::hex;
-use crate::output::number;
 use crate::output::text;
 use crate::state_bytes::bytes_of;
 use crate::state_bytes::state_from;
@@ -38,8 +37,8 @@ impl Run {
     fn read(self, first: u8) -> Run {
         let mut lengths = [0u8; 3];
         io::read_full(STDIN_FILENO, &mut lengths);
-        let mut space = [0u8; 699];
-        let length = length_of(lengths[1], lengths[2], LONGEST);
+        let mut space = [0u8; 4096];
+        let length = length_of(lengths[1], lengths[2]);
         read_part(&mut space, length);
         let list: &[u8] = &space;
         let mut room = [0u8; 255];
@@ -55,14 +54,14 @@ impl Run {
     }
 }
 
-// The digest of a run's calls from a state.
-fn digest_of(start: State, place: u32) -> u32 {
+// The digest of a run's calls from a state; the first buffer's first byte is the case's number.
+fn digest_of(start: State, n: u32) -> u32 {
     let mut run = Run {
         digest: 0,
         state: start,
     };
     for call in 0..24u32 {
-        let first = ((place % 256 + call) % 256) as u8;
+        let first = ((n % 256 + call) % 256) as u8;
         if (call < 2) | (call >= 22) {
             run = run.quiet(first);
         } else {
@@ -73,10 +72,8 @@ fn digest_of(start: State, place: u32) -> u32 {
 }
 
 // The row of a run: its number and its digest. Its calls follow its record.
-pub(crate) fn row(place: u32, record: &[u8; 64]) {
-    text(b"run ");
-    number(place);
-    text(b" ");
-    hex(digest_of(state_from(record), place));
+pub(crate) fn row(n: u32, record: &[u8; 64]) {
+    heading(b"run ", n);
+    hex(digest_of(state_from(record), n));
     text(b"\n");
 }

@@ -1,6 +1,7 @@
 // The row of a single clock.
 use crate::digest::with_bytes;
 use crate::output::decimal;
+use crate::output::heading;
 use crate::output::hex;
 use crate::output::hex_bytes;
 use crate::output::text;
@@ -20,11 +21,12 @@ fn write_of(record: &[u8; 64]) -> Write {
 }
 
 // The row of a single clock: its answer, the digest of its state, and that state's read-out.
-pub(crate) fn row(record: &[u8; 64]) {
+pub(crate) fn row(n: u32, record: &[u8; 64]) {
     let answer = tia::colour_clock(state_from(record), write_of(record));
     let state = answer.state;
     let out = tia::read_out(state);
     let bytes = out.bytes;
+    heading(b"clock ", n);
     decimal(answer.number);
     decimal(answer.index);
     decimal(answer.byte);

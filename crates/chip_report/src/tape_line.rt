@@ -6,6 +6,7 @@ use crate::call::lent_of;
 use crate::call::read_part;
 use crate::digest::with_bytes;
 use crate::output::decimal;
+use crate::output::heading;
 use crate::output::hex;
 use crate::output::place;
 use crate::output::text;
@@ -14,9 +15,6 @@ use crate::state_bytes::state_from;
 use libc::STDIN_FILENO;
 use replay::Verdict;
 use tape::Place;
-
-// The room for a tape.
-const ROOM: usize = 4096;
 
 // The number of four bytes, the highest first.
 fn four(a: u8, b: u8, c: u8, d: u8) -> u64
@@ -59,7 +57,6 @@ fn played(verdict: Verdict) {
 
 // Reading and the stretch at a place of a tape.
 fn show_reading(tape: &[u8], at: usize) {
-    text(b"tape ");
     read(tape::read_at(tape, at));
     hex(with_bytes(0, tape::stretch_at(tape, at)));
     text(b" ");
@@ -79,24 +76,25 @@ fn show_playing(record: &[u8; 64], tape: &[u8], at: usize, buffer: &mut [u8], fi
 }
 
 // The row of a line of a tape. The rest of its place, the tape's length and the tape follow its record.
-pub(crate) fn row(index: u32, record: &[u8; 64]) {
+pub(crate) fn row(n: u32, record: &[u8; 64]) {
     let mut head = [0u8; 8];
     io::read_full(STDIN_FILENO, &mut head);
     let high = four(record[62], record[63], head[0], head[1]);
     let at = high * 4294967296 + four(head[2], head[3], head[4], head[5]);
     let mut space = [0u8; 4096];
-    let length = length_of(head[6], head[7], ROOM);
+    let length = length_of(head[6], head[7]);
     read_part(&mut space, length);
     let tape: &[u8] = &space;
     let mut room = [0u8; 255];
     let buffer: &mut [u8] = &mut room;
     let lent = lent_of(record[61]);
+    heading(b"tape ", n);
     show_reading(&tape[0..length], at as usize);
     show_playing(
         record,
         &tape[0..length],
         at as usize,
         &mut buffer[0..lent],
-        (index % 256) as u8,
+        (n % 256) as u8,
     );
 }

@@ -1,8 +1,8 @@
 // The row of a walk: 1,000 clocks from a state, with up to 64 timed writes.
 use crate::digest::with_byte;
 use crate::digest::with_bytes;
+use crate::output::heading;
 use crate::output::hex;
-use crate::output::number;
 use crate::output::text;
 use crate::state_bytes::bytes_of;
 use crate::state_bytes::state_from;
@@ -97,12 +97,10 @@ fn digest_of(start: State, writes: &[u8; 192]) -> u32 {
 }
 
 // The row of a walk: its number and its digest. Its writes follow its record.
-pub(crate) fn row(place: u32, record: &[u8; 64]) {
+pub(crate) fn row(n: u32, record: &[u8; 64]) {
     let mut writes = [0u8; 192];
     io::read_full(STDIN_FILENO, &mut writes);
-    text(b"walk ");
-    number(place);
-    text(b" ");
+    heading(b"walk ", n);
     hex(digest_of(state_from(record), &writes));
     text(b"\n");
 }

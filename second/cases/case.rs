@@ -1,0 +1,238 @@
+//! The cases: a single clock, a walk of clocks, a line call, a run of line calls, a tape call; and
+//! the playing of them.
+
+use crate::cases::build_lists::list_of;
+use crate::model::clock::{clock, Answer, RegisterWrite};
+use crate::model::line::{line, LineAnswer};
+use crate::model::line_faults::COLUMNS;
+use crate::model::replay::{play_line, TapeAnswer};
+use crate::model::state::State;
+use crate::model::write_list::ListedWrite;
+
+/// The number of clocks of a walk.
+pub const WALK_CLOCKS: usize = 1000;
+
+/// The number of writes of a walk.
+pub const WALK_WRITES: usize = 64;
+
+/// The number of calls in a run's record.
+pub const RUN_CALLS: usize = 20;
+
+/// The number of calls without writes before a run's own, and after them.
+pub const QUIET_CALLS: usize = 2;
+
+/// A case of any kind.
+#[derive(Clone, Debug, PartialEq, Eq)]
+pub enum Case {
+    Clock(Single),
+    Walk(Walk),
+    Line(LineCase),
+    Run(RunCase),
+    Tape(TapeCase),
+}
+
+/// One clock: the state given to it and its write.
+#[derive(Clone, Copy, Debug, PartialEq, Eq)]
+pub struct Single {
+    pub state: State,
+    pub write: Option<RegisterWrite>,
+}
+
+impl Single {
+    /// Runs the clock.
+    pub fn play(&self) -> Answer {
+        clock(&self.state, self.write)
+    }
+}
+
+/// A write of a walk and the number of clocks without a write before it.
+#[derive(Clone, Copy, Debug, PartialEq, Eq)]
+pub struct WaitedWrite {
+    pub wait: u8,
+    pub write: RegisterWrite,
+}
+
+/// 1,000 clocks from a state, each given the state that the one before handed back.
+#[derive(Clone, Copy, Debug, PartialEq, Eq)]
+pub struct Walk {
+    pub state: State,
+    pub writes: [WaitedWrite; WALK_WRITES],
+}
+
+impl Walk {
+    /// The write of each clock; a write whose clock is 1,000 or later has none.
+    pub fn writes_by_clock(&self) -> [Option<RegisterWrite>; WALK_CLOCKS] {
+        let mut writes = [None; WALK_CLOCKS];
+        let mut clock = 0;
+        for waited in &self.writes {
+            clock += usize::from(waited.wait);
+            if let Some(place) = writes.get_mut(clock) {
+                *place = Some(waited.write);
+            }
+            clock += 1;
+        }
+        writes
+    }
+
+    /// Runs the clocks.
+    pub fn play(&self) -> Vec<Answer> {
+        let mut state = self.state;
+        let mut answers = Vec::new();
+        for write in self.writes_by_clock() {
+            let answer = Single { state, write }.play();
+            state = answer.state;
+            answers.push(answer);
+        }
+        answers
+    }
+}
+
+/// A line call: the length of the buffer lent to it and its write list.
+#[derive(Clone, Debug, PartialEq, Eq)]
+pub struct Call {
+    pub length: u8,
+    pub list: Vec<u8>,
+}
+
+impl Call {
+    /// The call with these records and a buffer of 160 bytes.
+    pub fn with(records: &[ListedWrite]) -> Call {
+        Call {
+            length: COLUMNS as u8,
+            list: list_of(records),
+        }
+    }
+
+    /// Makes the call on a state, with a buffer that holds rising bytes from this one on, modulo
+    /// 256.
+    pub fn play(&self, given: &State, first_byte: usize) -> Played {
+        let mut buffer = lent_buffer(self.length, first_byte);
+        let answer = line(given, &self.list, &mut buffer);
+        Played { answer, buffer }
+    }
+}
+
+/// A buffer of this length before a call: rising bytes from a first one on, modulo 256.
+fn lent_buffer(length: u8, first_byte: usize) -> Vec<u8> {
+    (0..usize::from(length))
+        .map(|index| (first_byte + index) as u8)
+        .collect()
+}
+
+/// A line call that was made: its answer and the buffer as it returns.
+#[derive(Clone, Debug, PartialEq, Eq)]
+pub struct Played {
+    pub answer: LineAnswer,
+    pub buffer: Vec<u8>,
+}
+
+/// One line call and the state given to it.
+#[derive(Clone, Debug, PartialEq, Eq)]
+pub struct LineCase {
+    pub state: State,
+    pub call: Call,
+}
+
+impl LineCase {
+    /// Makes the call of the record with this number.
+    pub fn play(&self, number: usize) -> Played {
+        self.call.play(&self.state, number)
+    }
+}
+
+/// A chain of calls and the state given to the first.
+#[derive(Clone, Debug, PartialEq, Eq)]
+pub struct RunCase {
+    pub state: State,
+    pub calls: Vec<Call>,
+}
+
+impl RunCase {
+    /// The run from a state with these lines, filled up with calls without writes.
+    pub fn of_lines(state: State, lines: &[Vec<ListedWrite>]) -> RunCase {
+        let mut calls: Vec<Call> = lines.iter().map(|line| Call::with(line)).collect();
+        calls.resize(RUN_CALLS, Call::with(&[]));
+        RunCase { state, calls }
+    }
+
+    /// Plays the run of the record with this number: its calls between two calls without writes
+    /// before and two after.
+    pub fn play(&self, number: usize) -> Vec<Played> {
+        let quiet = vec![Call::with(&[]); QUIET_CALLS];
+        let chain = [&quiet[..], &self.calls, &quiet].concat();
+        play_chain(&self.state, &chain, number)
+    }
+}
+
+/// Makes calls one after another, each given the state that the one before handed back; the first
+/// byte of the first buffer is given, and rises by one from call to call.
+pub fn play_chain(given: &State, calls: &[Call], first_byte: usize) -> Vec<Played> {
+    let mut state = *given;
+    let mut chain = Vec::new();
+    for (n, call) in calls.iter().enumerate() {
+        let played = call.play(&state, first_byte + n);
+        state = played.answer.state;
+        chain.push(played);
+    }
+    chain
+}
+
+/// A tape, a place of it, the state given to the call and the length of the buffer lent to it.
+#[derive(Clone, Debug, PartialEq, Eq)]
+pub struct TapeCase {
+    pub state: State,
+    pub length: u8,
+    pub place: u64,
+    pub tape: Vec<u8>,
+}
+
+/// A tape call that was made: its answer and the buffer as it returns.
+#[derive(Clone, Debug, PartialEq, Eq)]
+pub struct PlayedTape {
+    pub answer: TapeAnswer,
+    pub buffer: Vec<u8>,
+}
+
+impl TapeCase {
+    /// The call on a state with a buffer of 160 bytes.
+    pub fn new(state: State, tape: Vec<u8>, place: u64) -> TapeCase {
+        TapeCase {
+            state,
+            length: COLUMNS as u8,
+            place,
+            tape,
+        }
+    }
+
+    /// Makes the call of the record with this number.
+    pub fn play(&self, number: usize) -> PlayedTape {
+        let mut buffer = lent_buffer(self.length, number);
+        let answer = play_line(&self.state, &self.tape, self.place, &mut buffer);
+        PlayedTape { answer, buffer }
+    }
+}
+
+#[cfg(test)]
+mod tests {
+    use super::*;
+
+    #[test]
+    fn waits_are_the_clocks_between_writes_and_clock_1000_is_not_reached() {
+        let write = RegisterWrite {
+            address: 0x0E,
+            value: 1,
+        };
+        let mut walk = Walk {
+            state: State::START,
+            writes: [WaitedWrite { wait: 249, write }; WALK_WRITES],
+        };
+        let clocks = |walk: &Walk| -> Vec<usize> {
+            let writes = walk.writes_by_clock();
+            (0..WALK_CLOCKS).filter(|&n| writes[n].is_some()).collect()
+        };
+        assert_eq!(clocks(&walk), [249, 499, 749, 999]);
+        walk.writes[0].wait = 250;
+        walk.writes[1].wait = 0;
+        assert_eq!(clocks(&walk), [250, 251, 501, 751]);
+    }
+}

@@ -1,0 +1,366 @@
+//! What the rows of the table are asked of: a clock, a line call, a run or a tape call, with what
+//! it was given and what came of it.
+
+use crate::cases::build_tapes::line_places;
+use crate::cases::case::TapeCase;
+use crate::cases::case::{LineCase, RunCase};
+use crate::cases::spoil::ReadingFault;
+use crate::cases::state_fields::to_bytes;
+use crate::cases::state_fields::{faults, Fault};
+use crate::model::clock::{run, Done, RegisterWrite};
+use crate::model::first_lit::first_lit;
+use crate::model::line_faults::line_faults;
+use crate::model::object::is_start;
+use crate::model::refusal::Refusal;
+use crate::model::registers::Register;
+use crate::model::state::{State, NO_MOTION};
+use crate::model::tape::{read, stretch, Reading, FIRST_PLACE};
+use crate::model::write_list::{records, ListedWrite};
+use crate::reports::demand3::{clocks_of, Finding, Line, PlayedRun};
+
+/// What a row is asked of.
+#[derive(Clone, Copy, Debug, PartialEq, Eq)]
+pub enum Kind {
+    Clock,
+    RefusedClock,
+    Line,
+    Run,
+    Tape,
+}
+
+/// What the names of rows begin with, by the kind that they are asked of.
+pub const PREFIXES: [&str; 5] = ["", "", "line: ", "run: ", "tape: "];
+
+/// What was seen; a part that its kind does not have is empty. The refusal's number and record are
+/// both 0 if there was none.
+pub struct Seen {
+    pub kind: Kind,
+    pub given: State,
+    pub after: State,
+    pub number: u8,
+    pub record: usize,
+    pub clock: ClockPart,
+    pub line: LinePart,
+    pub run: RunPart,
+    pub tape: TapePart,
+}
+
+/// A clock's write, what it did, and whether it stands in a walk and after an HMOVE of it.
+#[derive(Default)]
+pub struct ClockPart {
+    pub write: Option<RegisterWrite>,
+    done: Option<Done>,
+    pub in_walk: bool,
+    pub after_hmove: bool,
+}
+
+/// Line calls: that of a line, that of a tape where reading finds a line, a run's own. For a line
+/// and a tape also the length of the buffer lent, the line's bytes that are there, and all faults
+/// with them. The buffer is as the call returns, for a run that of its second line without writes.
+#[derive(Default)]
+pub struct LinePart {
+    pub calls: Vec<SeenCall>,
+    pub length: u8,
+    pub list: Vec<u8>,
+    pub faults: Vec<Refusal>,
+    pub buffer: Vec<u8>,
+}
+
+/// A line call: the state given to it, its records and its refusal's number.
+pub struct SeenCall {
+    pub given: State,
+    pub records: Line,
+    pub number: u8,
+}
+
+/// What demand 3 finds of each object, and whether the run is also played from its first state.
+#[derive(Default)]
+pub struct RunPart {
+    pub findings: Vec<Option<Finding>>,
+    pub direct: bool,
+}
+
+/// The tape, the place given and the one handed back.
+#[derive(Default)]
+pub struct TapePart {
+    pub bytes: Vec<u8>,
+    pub place: u64,
+    pub next_place: u64,
+}
+
+impl Seen {
+    /// What is seen of a kind that was given a state, accepted and without its own parts.
+    fn new(kind: Kind, given: &State) -> Seen {
+        Seen {
+            kind,
+            given: *given,
+            after: *given,
+            number: 0,
+            record: 0,
+            clock: ClockPart::default(),
+            line: LinePart::default(),
+            run: RunPart::default(),
+            tape: TapePart::default(),
+        }
+    }
+
+    /// A clock; whether it stands in a walk is left open.
+    pub fn clock(given: &State, write: Option<RegisterWrite>) -> Seen {
+        let outcome = run(given, write);
+        let mut seen = Seen::new(Kind::Clock, given);
+        match outcome {
+            Ok(done) => seen.after = done.state,
+            Err(refusal) => {
+                seen.kind = Kind::RefusedClock;
+                seen.number = refusal.number;
+            }
+        }
+        seen.clock.write = write;
+        seen.clock.done = outcome.ok();
+        seen
+    }
+
+    /// The call of the line record with this number.
+    pub fn line(number: usize, case: &LineCase) -> Seen {
+        let mut seen = Seen::new(Kind::Line, &case.state);
+        let played = case.call.play(&case.state, number);
+        let answer = played.answer;
+        (seen.number, seen.record, seen.after) = (answer.number, answer.record, answer.state);
+        seen.set_line(case.call.length, &case.call.list, played.buffer);
+        seen.add_call(&case.state, &case.call.list, answer.number);
+        seen
+    }
+
+    /// The run with this number.
+    pub fn run(number: usize, run: &RunCase) -> Seen {
+        let mut seen = Seen::new(Kind::Run, &run.state);
+        let played = PlayedRun::new(number, run);
+        seen.after = played.second_quiet().answer.state;
+        for (call, played) in run.calls.iter().zip(played.own()) {
+            let given = seen.after;
+            seen.add_call(&given, &call.list, played.answer.number);
+            seen.after = played.answer.state;
+        }
+        seen.line.buffer = played.second_quiet().buffer.clone();
+        seen.run.findings = (0..5).map(|object| played.find(object)).collect();
+        seen.run.direct = played.direct.is_some();
+        seen
+    }
+
+    /// The call of the tape record with this number.
+    pub fn tape(number: usize, case: &TapeCase) -> Seen {
+        let mut seen = Seen::new(Kind::Tape, &case.state);
+        let played = case.play(number);
+        let answer = played.answer;
+        (seen.number, seen.record, seen.after) = (answer.number, answer.record, answer.state);
+        seen.tape.bytes = case.tape.clone();
+        seen.tape.place = case.place;
+        seen.tape.next_place = answer.place;
+        let (_, there) = line_bytes(&case.tape, case.place);
+        seen.set_line(case.length, there, played.buffer);
+        if let Ok(Reading::Line { start, end }) = seen.reading() {
+            seen.add_call(&case.state, &case.tape[start..end], answer.number);
+        }
+        seen
+    }
+
+    /// Sets what a line call and a tape call have: lengths, the line's bytes, the buffer after.
+    fn set_line(&mut self, length: u8, list: &[u8], buffer: Vec<u8>) {
+        self.line.length = length;
+        self.line.list = list.to_vec();
+        self.line.faults = line_faults(&self.given, list, usize::from(length));
+        self.line.buffer = buffer;
+    }
+
+    /// Adds a line call.
+    fn add_call(&mut self, given: &State, list: &[u8], number: u8) {
+        self.line.calls.push(SeenCall {
+            given: *given,
+            records: records(list),
+            number,
+        });
+    }
+
+    /// Whether a line call was accepted: that of a line, or that of a tape, which was played.
+    pub fn accepted(&self) -> bool {
+        let ended = self.kind == Kind::Tape && self.tape.next_place == 0;
+        self.number == 0 && !self.line.calls.is_empty() && !ended
+    }
+
+    /// Whether a clock or a line call was refused with this number; for a tape that of the line
+    /// which reading finds.
+    pub fn refused_with(&self, number: u8) -> bool {
+        self.number == number && (self.kind != Kind::Tape || !self.line.calls.is_empty())
+    }
+
+    /// Whether it was refused with 1 for this fault alone.
+    pub fn refused_for(&self, fault: Fault) -> bool {
+        self.refused_with(1) && self.state_faults() == [fault]
+    }
+
+    /// The faults of refusal 1 in the state given.
+    pub fn state_faults(&self) -> Vec<Fault> {
+        faults(&to_bytes(&self.given))
+    }
+
+    /// Whether the line call has a fault of which this holds.
+    pub fn has(&self, fault: impl Fn(&Refusal) -> bool) -> bool {
+        self.line.faults.iter().any(fault)
+    }
+
+    /// The record that was refused with this number, 5 to 7, and its index.
+    pub fn bad_record(&self, number: u8) -> Option<(usize, ListedWrite)> {
+        let call = self.line.calls.first();
+        let call = call.filter(|_| self.refused_with(number))?;
+        Some((self.record, call.records[self.record]))
+    }
+
+    /// The accepted lines.
+    pub fn accepted_lines(&self) -> impl Iterator<Item = &Line> {
+        let accepted = self.line.calls.iter().filter(|call| call.number == 0);
+        accepted.map(|call| &call.records)
+    }
+
+    /// Whether the register is written by an accepted clock, or in an accepted line.
+    pub fn wrote(&self, register: Register) -> bool {
+        let by_clock = self.clock.done.as_ref().and_then(|done| done.register);
+        let in_line = |line: &Line| !clocks_of(line, register).is_empty();
+        by_clock == Some(register) || self.accepted_lines().any(in_line)
+    }
+
+    /// The first lit column of an object in the buffer; none if it has not 160 bytes.
+    pub fn first_column(&self, object: usize) -> Option<usize> {
+        first_lit(&self.line.buffer, object as u8).unwrap_or(None)
+    }
+}
+
+/// Questions to an accepted clock.
+impl Seen {
+    /// What the clock did.
+    pub fn done(&self) -> &Done {
+        self.clock.done.as_ref().expect("an accepted clock")
+    }
+
+    /// Whether HMOVE was written.
+    pub fn hmove(&self) -> bool {
+        self.wrote(Register::Hmove)
+    }
+
+    /// Step 3.
+    pub fn blank(&self) -> bool {
+        self.done().blank
+    }
+
+    /// Whether motion is under way for some object as the clock begins.
+    pub fn under_way(&self) -> bool {
+        self.given.slot < NO_MOTION && self.given.objects.iter().any(|object| object.live)
+    }
+
+    /// Step 6: the position that a pulse reached, if there was one.
+    pub fn reached(&self, object: usize) -> Option<u8> {
+        let pulsed = self.done().pulsed[object];
+        pulsed.then(|| self.given.objects[object].pulsed().position)
+    }
+
+    /// Whether a pulse reached a position that is a start with the copies as they are after step 2.
+    pub fn reached_start(&self, object: usize) -> bool {
+        let copies = self.done().written.registers.copies_of(object);
+        let reached = self.reached(object);
+        reached.map_or(false, |position| is_start(position, copies))
+    }
+
+    /// Step 7: whether the object's position strobe was written.
+    pub fn strobed(&self, object: usize) -> bool {
+        self.wrote(Register::Strobe(object))
+    }
+
+    /// Steps 8 and 9: whether the column is unblanked and the object so, lit or not.
+    pub fn lit(&self, object: usize, lit: bool) -> bool {
+        !self.blank() && self.done().lit[object] == lit
+    }
+}
+
+/// Questions to a tape call.
+impl Seen {
+    /// What reading finds at the place.
+    fn reading(&self) -> Result<Reading, Refusal> {
+        read(&self.tape.bytes, self.tape.place)
+    }
+
+    /// Whether reading is refused for this fault and so is playing, with the same number.
+    pub fn unread(&self, fault: ReadingFault) -> bool {
+        let same = |refusal: Refusal| refusal.number == self.number;
+        self.reading().err().map_or(false, same)
+            && reading_fault(&self.tape.bytes, self.tape.place) == Some(fault)
+    }
+
+    /// Whether reading is refused for this fault of a line, and this holds of the line's length
+    /// and of how many of its bytes are missing.
+    pub fn unread_line(&self, fault: ReadingFault, holds: impl Fn(usize, usize) -> bool) -> bool {
+        let (length, there) = line_bytes(&self.tape.bytes, self.tape.place);
+        let holds = |length: usize| holds(length, length - there.len());
+        self.unread(fault) && length.map_or(false, holds)
+    }
+
+    /// The fault for which reading would be refused if the version byte were this.
+    pub fn fault_with_version(&self, version: u8) -> Option<ReadingFault> {
+        let mut tape = self.tape.bytes.clone();
+        *tape.first_mut()? = version;
+        reading_fault(&tape, self.tape.place)
+    }
+
+    /// Whether reading finds the tape's end and the call is not refused.
+    pub fn ended(&self) -> bool {
+        self.reading() == Ok(Reading::Ended) && self.number == 0
+    }
+
+    /// The place's distance from the tape's end if it is past it.
+    pub fn past_the_end(&self) -> Option<u64> {
+        let end = self.tape.bytes.len() as u64;
+        self.tape.place.checked_sub(end).filter(|&past| past > 0)
+    }
+
+    /// Whether a line of the tape begins at a place.
+    pub fn begins_line(&self, place: u64) -> bool {
+        line_places(&self.tape.bytes).contains(&place)
+    }
+
+    /// Whether the place is within the tape and no border of a line.
+    pub fn is_inner(&self) -> bool {
+        let place = self.tape.place;
+        let after = match line_places(&self.tape.bytes).last() {
+            Some(&last) => last + 2 + stretch(&self.tape.bytes, last).len() as u64,
+            None => FIRST_PLACE,
+        };
+        let border = place == after || self.begins_line(place);
+        place > 0 && self.past_the_end().is_none() && !border
+    }
+}
+
+/// The length that stands at a place of a tape and the line's bytes that are there; neither if not
+/// two bytes stand there.
+fn line_bytes(tape: &[u8], place: u64) -> (Option<usize>, &[u8]) {
+    let place = usize::try_from(place).ok().filter(|&place| place > 0);
+    match place.and_then(|place| tape.get(place..)) {
+        Some([high, low, writes @ ..]) => {
+            let length = 256 * usize::from(*high) + usize::from(*low);
+            (Some(length), &writes[..length.min(writes.len())])
+        }
+        _ => (None, &[]),
+    }
+}
+
+/// The fault for which reading is refused, by its number and the place.
+fn reading_fault(tape: &[u8], place: u64) -> Option<ReadingFault> {
+    let end = tape.len() as u64;
+    let fault = match read(tape, place).err()?.number {
+        8 if tape.is_empty() => ReadingFault::Empty,
+        8 => ReadingFault::Version,
+        4 => ReadingFault::Length,
+        _ if place == 0 => ReadingFault::PlaceZero,
+        _ if place > end => ReadingFault::PastEnd,
+        _ if place + 1 == end => ReadingFault::LoneByte,
+        _ => ReadingFault::Cut,
+    };
+    Some(fault)
+}

@@ -1,0 +1,115 @@
+//! Tests of what is lit: steps 8 and 9.
+
+use crate::model::lit::lit;
+use crate::model::object::{BL, M0, M1, P0, P1, PF};
+use crate::model::state::State;
+
+/// The ages at which an object of this state is lit.
+fn ages_lit(state: &State, object: usize) -> Vec<u8> {
+    let mut state = *state;
+    let mut is_lit = |age: u8| {
+        state.objects[object].age = age;
+        lit(&state)[object]
+    };
+    (0..=64).filter(|&age| is_lit(age)).collect()
+}
+
+/// The columns in which the playfield of this state is lit.
+fn playfield_columns(state: &State) -> Vec<u8> {
+    let is_lit = |&h: &u8| lit(&State { h, ..*state })[PF];
+    (0..228).filter(is_lit).map(|h| h - 68).collect()
+}
+
+/// So many numbers from a first one on.
+fn from(first: u8, number: u8) -> Vec<u8> {
+    (first..first + number).collect()
+}
+
+// "Player at ages 5 to 4 + 8 x size, showing bit (age - 5) / size from bit 7 down, or from bit 0
+// up when reflected."
+#[test]
+fn a_player_shows_each_bit_for_its_size() {
+    for player in [P0, P1] {
+        for size in [1, 2, 4] {
+            let mut state = State::START;
+            state.sizes[player] = size;
+            state.registers.grp_new[player] = 255;
+            assert_eq!(ages_lit(&state, player), from(5, 8 * size));
+            assert_eq!(ages_lit(&state, 1 - player), []);
+            for bit in 0..8 {
+                state.registers.grp_new[player] = 1 << bit;
+                state.registers.refp = [false; 2];
+                state.registers.refp[1 - player] = true;
+                assert_eq!(ages_lit(&state, player), from(5 + (7 - bit) * size, size));
+                state.registers.refp[player] = true;
+                assert_eq!(ages_lit(&state, player), from(5 + bit * size, size));
+            }
+        }
+    }
+}
+
+// "Of the new graphic, or the old with VDELP."
+#[test]
+fn vdelp_chooses_the_old_graphic() {
+    for player in [P0, P1] {
+        let mut state = State::START;
+        state.registers.grp_new[player] = 0b1000_0000;
+        state.registers.grp_old[player] = 0b0000_0001;
+        state.registers.vdelp[1 - player] = true;
+        assert_eq!(ages_lit(&state, player), [5]);
+        state.registers.vdelp[player] = true;
+        assert_eq!(ages_lit(&state, player), [12]);
+    }
+}
+
+// "Missile and ball at ages 4 to 3 + width when enabled"; widths 1, 2, 4, 8 by NUSIZ.
+#[test]
+fn a_missile_has_its_own_width_and_enable() {
+    for (n, missile) in [M0, M1].into_iter().enumerate() {
+        for (code, width) in [(0, 1), (1, 2), (2, 4), (3, 8)] {
+            let mut state = State::START;
+            state.registers.width_codes[n] = code;
+            state.registers.enam[1 - n] = true;
+            assert_eq!(ages_lit(&state, missile), []);
+            state.registers.enam[n] = true;
+            assert_eq!(ages_lit(&state, missile), from(4, width));
+        }
+    }
+}
+
+// CTRLPF "bits 4-5 ball width as above"; "ball: old enable with VDELBL".
+#[test]
+fn the_ball_has_the_width_of_ctrlpf_and_the_enable_that_vdelbl_chooses() {
+    for (ctrlpf, width) in [(0xCF, 1), (0x1F, 2), (0x20, 4), (0xF0, 8)] {
+        for choice in 0..8 {
+            let mut state = State::START;
+            state.registers.ctrlpf = ctrlpf;
+            let [new, old, vdelbl] = [1, 2, 4].map(|bit| choice & bit != 0);
+            state.registers.enabl_new = new;
+            state.registers.enabl_old = old;
+            state.registers.vdelbl = vdelbl;
+            let enabled = if vdelbl { old } else { new };
+            let ages = from(4, if enabled { width } else { 0 });
+            assert_eq!(ages_lit(&state, BL), ages);
+        }
+    }
+}
+
+// "Playfield bit x / 4: 0-19 are PF0 bits 4 to 7, PF1 bits 7 to 0, PF2 bits 0 to 7; 20-39 repeat
+// them, or run backwards when reflected." CTRLPF bit 0 alone reflects.
+#[test]
+fn each_playfield_bit_lights_its_four_columns_in_both_halves() {
+    for bit in 0..20 {
+        let mut state = State::START;
+        match bit {
+            0..=3 => state.registers.pf0 = [1, 2, 4, 8][usize::from(bit)],
+            4..=11 => state.registers.pf1 = 0x80 >> (bit - 4),
+            _ => state.registers.pf2 = 0x01 << (bit - 12),
+        }
+        for (ctrlpf, right) in [(0, 80 + 4 * bit), (0xFE, 80 + 4 * bit), (1, 156 - 4 * bit)] {
+            state.registers.ctrlpf = ctrlpf;
+            let expected = [from(4 * bit, 4), from(right, 4)].concat();
+            assert_eq!(playfield_columns(&state), expected);
+        }
+    }
+}

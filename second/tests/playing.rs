@@ -1,0 +1,63 @@
+//! For tests: single clocks that are accepted, lines played one after another from the start
+//! state, and what they show.
+
+use crate::model::clock::{run, Done, RegisterWrite};
+use crate::model::first_lit::shows;
+use crate::model::line::line;
+use crate::model::state::State;
+
+/// The start state at clock h.
+pub fn at(h: u8) -> State {
+    State { h, ..State::START }
+}
+
+/// The write of a value to an address.
+pub fn to(address: u8, value: u8) -> Option<RegisterWrite> {
+    Some(RegisterWrite { address, value })
+}
+
+/// What a clock does that is accepted.
+pub fn done(state: &State, write: Option<RegisterWrite>) -> Done {
+    run(state, write).unwrap()
+}
+
+/// A line that was played: the state after it and its bytes.
+pub struct Played {
+    pub state: State,
+    pub bytes: [u8; 160],
+}
+
+/// Lines with these write lists, all accepted, played one after another from the start state.
+pub fn play(lists: &[Vec<u8>]) -> Vec<Played> {
+    let mut state = State::START;
+    let mut played = Vec::new();
+    for list in lists {
+        let mut bytes = [99; 160];
+        let answer = line(&state, list, &mut bytes);
+        assert_eq!((answer.number, answer.record), (0, 0));
+        state = answer.state;
+        played.push(Played { state, bytes });
+    }
+    played
+}
+
+/// The columns of each line in which an object is lit.
+pub fn columns(played: &[Played], object: u8) -> Vec<Vec<usize>> {
+    columns_with(played, |byte| shows(byte, object))
+}
+
+/// The columns of each line that hold 64.
+pub fn blank(played: &[Played]) -> Vec<Vec<usize>> {
+    columns_with(played, |byte| byte == 64)
+}
+
+/// The columns of each line whose byte is such a one.
+fn columns_with(played: &[Played], is: impl Fn(u8) -> bool) -> Vec<Vec<usize>> {
+    let of_line = |line: &Played| (0..160).filter(|&x| is(line.bytes[x])).collect();
+    played.iter().map(of_line).collect()
+}
+
+/// The columns from a first to a last.
+pub fn span(first: usize, last: usize) -> Vec<usize> {
+    (first..=last).collect()
+}
