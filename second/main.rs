@@ -11,111 +11,66 @@ mod tests;
 
 use cases::case::{Case, RunCase};
 use cases::record::cases_of;
+use cases::{chip_cases, sample};
 use model::input::bytes_of_input;
+use model::{listing, object_bytes};
 use reports::failure::Failure;
+use reports::{chip_report, counter_report, demand3_report, repeat_line};
 use std::env;
 use std::ffi::OsString;
-use std::io::{self, BufWriter, Write};
+use std::io::{self, BufWriter, Read, Write};
 use std::path::Path;
 use std::process::ExitCode;
+use tapes::test_tapes;
 
-/// A command: its name, the names of its arguments, what it gives, and the function that does it
-/// with the arguments and standard output.
-struct Command {
-    name: &'static str,
-    arguments: &'static [&'static str],
-    gives: &'static str,
-    run: fn(&[OsString], &mut dyn Write) -> Result<(), Failure>,
-}
+/// The commands: what each gives.
+const USAGE: &str = "usage: second COMMAND
+commands:
+  counter  the six-bit counter's answers for every byte
+  chip_cases  the large case file of single clocks, walks, lines, runs and tapes (binary)
+  chip_sample  a small case file with every kind of case and every outcome (binary)
+  coverage  the table of what the cases of the large case file must make happen
+  chip  the chip's answers for the cases of the case file on standard input
+  demand3  how often demand 3 is checked on the runs of the case file on standard input
+  listing  the listing of the tape on standard input
+  object_bytes  the answer bytes of each line of the tape on standard input (binary)
+  repeat_line  the buffer after as many line calls as standard input asks for (binary)
+  tapes DIR  the test tapes, each a file in the folder DIR
+";
 
-const COMMANDS: [Command; 10] = [
-    Command {
-        name: "counter",
-        arguments: &[],
-        gives: "the six-bit counter's answers for every byte",
-        run: |_, out| Ok(reports::counter_report::write(out)?),
-    },
-    Command {
-        name: "chip_cases",
-        arguments: &[],
-        gives: "the large case file of single clocks, walks, lines, runs and tapes (binary)",
-        run: |_, out| cases::chip_cases::write(out),
-    },
-    Command {
-        name: "chip_sample",
-        arguments: &[],
-        gives: "a small case file with every kind of case and every outcome (binary)",
-        run: |_, out| cases::sample::write(out),
-    },
-    Command {
-        name: "coverage",
-        arguments: &[],
-        gives: "the table of what the cases of the large case file must make happen",
-        run: |_, out| Ok(out.write_all(coverage::text().as_bytes())?),
-    },
-    Command {
-        name: "chip",
-        arguments: &[],
-        gives: "the chip's answers for the cases of the case file on standard input",
-        run: |_, out| reports::chip_report::write(&mut io::stdin().lock(), out),
-    },
-    Command {
-        name: "demand3",
-        arguments: &[],
-        gives: "how often demand 3 is checked on the runs of the case file on standard input",
-        run: |_, out| reports::demand3_report::write(out, &runs_of_input()?),
-    },
-    Command {
-        name: "listing",
-        arguments: &[],
-        gives: "the listing of the tape on standard input",
-        run: |_, out| Ok(model::listing::write(&mut io::stdin().lock(), out)?),
-    },
-    Command {
-        name: "object_bytes",
-        arguments: &[],
-        gives: "the answer bytes of each line of the tape on standard input (binary)",
-        run: |_, out| Ok(model::object_bytes::write(&mut io::stdin().lock(), out)?),
-    },
-    Command {
-        name: "repeat_line",
-        arguments: &[],
-        gives: "the buffer after as many line calls as standard input asks for (binary)",
-        run: |_, out| Ok(reports::repeat_line::write(&mut io::stdin().lock(), out)?),
-    },
-    Command {
-        name: "tapes",
-        arguments: &["DIR"],
-        gives: "the test tapes, each a file in the folder DIR",
-        run: |arguments, _| tapes::test_tapes::write_into(Path::new(&arguments[0])),
-    },
+/// What a command does with the words after its name, standard input and standard output.
+type Run = fn(&[OsString], &mut dyn Read, &mut dyn Write) -> Result<(), Failure>;
+
+/// The commands: name, number of words after it, what is done.
+const COMMANDS: [(&str, usize, Run); 10] = [
+    ("counter", 0, |_, _, out| Ok(counter_report::write(out)?)),
+    ("chip_cases", 0, |_, _, out| chip_cases::write(out)),
+    ("chip_sample", 0, |_, _, out| sample::write(out)),
+    ("coverage", 0, |_, _, out| {
+        Ok(out.write_all(coverage::text().as_bytes())?)
+    }),
+    ("chip", 0, |_, input, out| chip_report::write(input, out)),
+    ("demand3", 0, |_, input, out| {
+        demand3_report::write(out, &runs_of(input)?)
+    }),
+    ("listing", 0, |_, input, out| {
+        Ok(listing::write(input, out)?)
+    }),
+    ("object_bytes", 0, |_, input, out| {
+        Ok(object_bytes::write(input, out)?)
+    }),
+    ("repeat_line", 0, |_, input, out| {
+        Ok(repeat_line::write(input, out)?)
+    }),
+    ("tapes", 1, |words, _, _| {
+        test_tapes::write_into(Path::new(&words[0]))
+    }),
 ];
 
-/// The command that the words name, and its arguments; none if they are not exactly one known
-/// name and as many words after it as the command has arguments.
-fn chosen(words: &[OsString]) -> Option<(&'static Command, &[OsString])> {
-    let (name, arguments) = words.split_first()?;
-    COMMANDS
-        .iter()
-        .find(|command| name == command.name && arguments.len() == command.arguments.len())
-        .map(|command| (command, arguments))
-}
-
-/// The usage message: every command with its arguments and what it gives.
-fn usage() -> String {
-    let mut text = String::from("usage: second COMMAND\ncommands:\n");
-    for command in &COMMANDS {
-        let mut words = vec![command.name];
-        words.extend(command.arguments);
-        text += &format!("  {}  {}\n", words.join(" "), command.gives);
-    }
-    text
-}
-
-/// The runs of the case file on standard input, each with its record's number. Fails at a record
-/// that cannot be read.
-fn runs_of_input() -> Result<Vec<(usize, RunCase)>, Failure> {
-    let file = bytes_of_input(&mut io::stdin().lock(), usize::MAX);
+/// The runs of the case file on an input, each with its record's number. Fails at a record that
+/// cannot be read.
+fn runs_of(input: &mut dyn Read) -> Result<Vec<(usize, RunCase)>, Failure> {
+    let file = bytes_of_input(input, usize::MAX);
     let mut runs = Vec::new();
     for (number, case) in cases_of(&file).enumerate() {
         if let Case::Run(run) = case? {
@@ -125,76 +80,74 @@ fn runs_of_input() -> Result<Vec<(usize, RunCase)>, Failure> {
     Ok(runs)
 }
 
-/// The exit status: 0 for a whole output, and for a write error on it, which only ends it; 1 for
-/// what is missing or false or cannot be written, which is named on the error output.
-fn status(done: Result<(), Failure>, errors: &mut dyn Write) -> u8 {
-    match done {
-        Ok(()) | Err(Failure::WriteError) => 0,
-        Err(Failure::Named(text)) => {
-            let _ = errors.write_all(text.as_bytes());
-            1
-        }
-    }
+/// What the words ask for; none if they are not a known name with its number of words after it.
+fn chosen(words: &[OsString]) -> Option<Run> {
+    let (name, rest) = words.split_first()?;
+    let known = |command: &&(&str, usize, Run)| name == command.0 && rest.len() == command.1;
+    COMMANDS.iter().find(known).map(|command| command.2)
 }
 
-/// Does what the chosen command gives; without a known command writes the usage message to
-/// standard error and answers status 2.
+/// Does the command that the words name and answers the exit status: 0 for a whole output, and for
+/// a write error on it, which only ends it; 1 for what is missing or false or cannot be written; 2
+/// without a known command. What is wrong, or the usage, is written to the error output.
+fn run(words: &[OsString], out: &mut dyn Write, errors: &mut dyn Write) -> u8 {
+    let done = chosen(words).map(|run| run(&words[1..], &mut io::stdin().lock(), out));
+    let (status, text) = match done {
+        Some(Ok(()) | Err(Failure::WriteError)) => (0, String::new()),
+        Some(Err(Failure::Named(text))) => (1, text),
+        None => (2, USAGE.to_string()),
+    };
+    let _ = errors.write_all(text.as_bytes());
+    status
+}
+
+/// Does the command that the program's words name.
 fn main() -> ExitCode {
     let words: Vec<OsString> = env::args_os().skip(1).collect();
-    match chosen(&words) {
-        Some((command, arguments)) => {
-            let mut out = BufWriter::new(io::stdout().lock());
-            let done = (command.run)(arguments, &mut out).and_then(|()| Ok(out.flush()?));
-            ExitCode::from(status(done, &mut io::stderr()))
-        }
-        None => {
-            let _ = io::stderr().write_all(usage().as_bytes());
-            ExitCode::from(2)
-        }
-    }
+    let mut out = BufWriter::new(io::stdout().lock());
+    ExitCode::from(run(&words, &mut out, &mut io::stderr()))
 }
 
 #[cfg(test)]
 mod command_tests {
     use super::*;
 
-    /// The name of the command that these words choose.
-    fn name_of(words: &[&str]) -> Option<&'static str> {
+    /// The status for these words, with an output of so many bytes at most, and the errors.
+    fn status(words: &[&str], room: usize) -> (u8, String) {
         let words: Vec<OsString> = words.iter().map(OsString::from).collect();
-        chosen(&words).map(|(command, _)| command.name)
+        let mut errors = Vec::new();
+        let status = run(&words, &mut &mut vec![0; room][..], &mut errors);
+        (status, String::from_utf8(errors).unwrap())
     }
 
     #[test]
-    fn one_known_name_and_its_arguments_choose_a_command() {
-        assert_eq!(name_of(&["chip"]), Some("chip"));
-        assert_eq!(name_of(&["tapes", "a"]), Some("tapes"));
-        let unknown: [&[&str]; 6] = [
+    fn only_named_things_and_unknown_words_fail() {
+        let whole_and_cut = [status(&["counter"], 100_000), status(&["counter"], 9)];
+        assert_eq!(whole_and_cut, [(0, "".into()), (0, "".into())]);
+        let (failed, text) = status(&["tapes", "/no/such/folder"], 0);
+        assert_eq!((failed, text.lines().count()), (1, 1));
+        assert!(text.starts_with("cannot write /no/such/folder/"));
+        let unknown: [&[&str]; 5] = [
             &[],
-            &["chips"],
             &["Chip"],
             &["chip", "a"],
             &["tapes"],
             &["tapes", "a", "b"],
         ];
         for words in unknown {
-            assert_eq!(name_of(words), None);
-        }
-        for command in &COMMANDS {
-            assert!(usage().contains(&format!("\n  {} ", command.name)));
+            assert_eq!(status(words, 9), (2, USAGE.to_string()));
         }
     }
 
     #[test]
-    fn only_named_things_fail() {
-        let cases = [
-            (Ok(()), 0, ""),
-            (Err(Failure::WriteError), 0, ""),
-            (Err(Failure::Named("this\n".into())), 1, "this\n"),
-        ];
-        for (done, expected, text) in cases {
-            let mut errors = Vec::new();
-            assert_eq!(status(done, &mut errors), expected);
-            assert_eq!(errors, text.as_bytes());
-        }
+    fn every_command_is_in_the_usage_in_its_place() {
+        let names = USAGE
+            .lines()
+            .skip(2)
+            .filter_map(|line| line.split(' ').nth(2));
+        assert_eq!(
+            COMMANDS.map(|command| command.0).to_vec(),
+            names.collect::<Vec<_>>()
+        );
     }
 }

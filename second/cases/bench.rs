@@ -11,13 +11,10 @@ pub const PRINTED_TAPE: [u8; 21] = [
     0x09, 0x2A, 0x00, 0x00, 0x00,
 ];
 
-/// The lines of a check, each with the records of its write list.
-pub type Lines = Vec<Vec<ListedWrite>>;
-
-/// A check: its name and its lines.
+/// A check: its name and its lines, each with the records of its write list.
 pub struct Check {
     pub name: String,
-    pub lines: Lines,
+    pub lines: Vec<Vec<ListedWrite>>,
 }
 
 impl Check {
@@ -44,45 +41,32 @@ pub fn checks() -> Vec<Check> {
     let playfield = [(0, 0x0D, 255), (9, 0x2A, 0)];
     let strobed = [(0, 0x1D, 2), (30, 0x12, 0)];
     let moved = [(0, 0x22, 0x70), (9, 0x2A, 0)];
-    let overlap = [(0, 0x1D, 2), (1, 0x0E, 255), (2, 0x0F, 255), (100, 0x12, 0)];
     let mut checks = vec![
         check("ball_strobed_at_100", &[&ball]),
         check("player_strobed_at_100", &[&player, &[]]),
         check("copies_3_after_strobe", &[&copies, &[]]),
         check("hmove_at_9_blank_columns", &[&playfield, &[]]),
-        check(
-            "cxclr_at_103_before_overlap",
-            &[&overlap, &[(103, 0x2C, 0)]],
-        ),
-        check("cxclr_at_104_with_overlap", &[&overlap, &[(104, 0x2C, 0)]]),
-        check("cxclr_at_105_after_overlap", &[&overlap, &[(105, 0x2C, 0)]]),
         check("printed_tape", &[&strobed, &[], &moved, &[]]),
     ];
-    for strobe in [30, 100] {
+    for (clock, when) in [(103, "before"), (104, "with"), (105, "after")] {
+        let overlap = [(0, 0x1D, 2), (1, 0x0E, 255), (2, 0x0F, 255), (100, 0x12, 0)];
+        let name = format!("cxclr_at_{}_{}_overlap", clock, when);
+        checks.push(check(&name, &[&overlap, &[(clock, 0x2C, 0)]]));
+    }
+    let hmoves = [9, 9, 9, 15, 16, 67, 68, 227];
+    let half_bytes = [7, 15, 8, 7, 7, 0, 0, 0];
+    for (strobe, column, moves) in [(30, 3, 1), (100, 36, 8)] {
         let strobed = [(0, 0x1D, 2), (strobe, 0x12, 0)];
         let name = format!("missile_strobed_at_{}", strobe);
         checks.push(check(&name, &[&strobed, &[]]));
-    }
-    let moves = [
-        (30, 9, 7),
-        (100, 9, 7),
-        (100, 9, 15),
-        (100, 9, 8),
-        (100, 15, 7),
-        (100, 16, 7),
-        (100, 67, 0),
-        (100, 68, 0),
-        (100, 227, 0),
-    ];
-    for (strobe, hmove, half_byte) in moves {
-        let column = if strobe == 30 { 3 } else { 36 };
-        let name = format!(
-            "missile_at_{}_hmove_at_{}_half_byte_{}",
-            column, hmove, half_byte
-        );
-        let strobed = [(0, 0x1D, 2), (strobe, 0x12, 0)];
-        let moved = [(0, 0x22, half_byte << 4), (hmove, 0x2A, 0)];
-        checks.push(check(&name, &[&strobed, &[], &moved, &[], &[]]));
+        for (hmove, half_byte) in hmoves.into_iter().zip(half_bytes).take(moves) {
+            let moved = [(0, 0x22, half_byte << 4), (hmove, 0x2A, 0)];
+            let name = format!(
+                "missile_at_{}_hmove_at_{}_half_byte_{}",
+                column, hmove, half_byte
+            );
+            checks.push(check(&name, &[&strobed, &[], &moved, &[], &[]]));
+        }
     }
     checks
 }

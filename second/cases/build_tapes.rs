@@ -44,23 +44,17 @@ mod tests {
     use crate::model::tape::stretch;
 
     #[test]
-    fn lists_are_read_back_from_their_tape() {
-        let lists = [vec![9, 0x2A, 7], vec![], vec![8; 684]];
+    fn lists_of_any_length_have_their_length_before_them_and_are_read_back() {
+        let lists = [vec![9, 0x2A, 7], vec![], vec![8; 684], vec![7; 700]];
         let tape = tape_of(&lists);
+        assert_eq!(tape[..9], [1, 0, 3, 9, 0x2A, 7, 0, 0, 2]);
         let places = line_places(&tape);
         assert_eq!(places, [1, 6, 8]);
         for (place, list) in places.into_iter().zip(&lists) {
             assert_eq!(stretch(&tape, place), &list[..]);
         }
+        assert_eq!(tape[694..698], [2, 0xBC, 7, 7]);
         let lines = [records_of(&[(9, 0x2A, 7)]), vec![]];
         assert_eq!(tape_of_lines(&lines), tape_of(&lists[..2]));
-    }
-
-    #[test]
-    fn a_list_of_any_length_has_its_length_before_it() {
-        let tape = tape_of(&[vec![7; 3], vec![8], vec![9; 700]]);
-        assert_eq!(tape[..9], [1, 0, 3, 7, 7, 7, 0, 1, 8]);
-        assert_eq!(tape[9..12], [2, 0xBC, 9]);
-        assert_eq!(line_places(&tape), [1]);
     }
 }

@@ -77,13 +77,12 @@ impl Walk {
     /// Runs the clocks.
     pub fn play(&self) -> Vec<Answer> {
         let mut state = self.state;
-        let mut answers = Vec::new();
-        for write in self.writes_by_clock() {
-            let answer = Single { state, write }.play();
+        let answers = self.writes_by_clock().into_iter().map(|write| {
+            let answer = clock(&state, write);
             state = answer.state;
-            answers.push(answer);
-        }
-        answers
+            answer
+        });
+        answers.collect()
     }
 }
 
@@ -92,6 +91,24 @@ impl Walk {
 pub struct Call {
     pub length: u8,
     pub list: Vec<u8>,
+}
+
+/// A call that was made: its answer and the buffer as it returns.
+#[derive(Clone, Debug, PartialEq, Eq)]
+pub struct Played<A = LineAnswer> {
+    pub answer: A,
+    pub buffer: Vec<u8>,
+}
+
+impl<A> Played<A> {
+    /// Makes a call that is lent a buffer of this length, which holds rising bytes from this one
+    /// on, modulo 256.
+    fn new(length: u8, first_byte: usize, call: impl FnOnce(&mut [u8]) -> A) -> Played<A> {
+        let bytes = first_byte..first_byte + usize::from(length);
+        let mut buffer: Vec<u8> = bytes.map(|byte| byte as u8).collect();
+        let answer = call(&mut buffer);
+        Played { answer, buffer }
+    }
 }
 
 impl Call {
@@ -103,27 +120,12 @@ impl Call {
         }
     }
 
-    /// Makes the call on a state, with a buffer that holds rising bytes from this one on, modulo
-    /// 256.
+    /// Makes the call on a state, with a buffer that holds rising bytes from this one on.
     pub fn play(&self, given: &State, first_byte: usize) -> Played {
-        let mut buffer = lent_buffer(self.length, first_byte);
-        let answer = line(given, &self.list, &mut buffer);
-        Played { answer, buffer }
+        Played::new(self.length, first_byte, |buffer| {
+            line(given, &self.list, buffer)
+        })
     }
-}
-
-/// A buffer of this length before a call: rising bytes from a first one on, modulo 256.
-fn lent_buffer(length: u8, first_byte: usize) -> Vec<u8> {
-    (0..usize::from(length))
-        .map(|index| (first_byte + index) as u8)
-        .collect()
-}
-
-/// A line call that was made: its answer and the buffer as it returns.
-#[derive(Clone, Debug, PartialEq, Eq)]
-pub struct Played {
-    pub answer: LineAnswer,
-    pub buffer: Vec<u8>,
 }
 
 /// One line call and the state given to it.
@@ -168,13 +170,12 @@ impl RunCase {
 /// byte of the first buffer is given, and rises by one from call to call.
 pub fn play_chain(given: &State, calls: &[Call], first_byte: usize) -> Vec<Played> {
     let mut state = *given;
-    let mut chain = Vec::new();
-    for (n, call) in calls.iter().enumerate() {
-        let played = call.play(&state, first_byte + n);
+    let chain = calls.iter().zip(first_byte..).map(|(call, first_byte)| {
+        let played = call.play(&state, first_byte);
         state = played.answer.state;
-        chain.push(played);
-    }
-    chain
+        played
+    });
+    chain.collect()
 }
 
 /// A tape, a place of it, the state given to the call and the length of the buffer lent to it.
@@ -184,13 +185,6 @@ pub struct TapeCase {
     pub length: u8,
     pub place: u64,
     pub tape: Vec<u8>,
-}
-
-/// A tape call that was made: its answer and the buffer as it returns.
-#[derive(Clone, Debug, PartialEq, Eq)]
-pub struct PlayedTape {
-    pub answer: TapeAnswer,
-    pub buffer: Vec<u8>,
 }
 
 impl TapeCase {
@@ -205,10 +199,10 @@ impl TapeCase {
     }
 
     /// Makes the call of the record with this number.
-    pub fn play(&self, number: usize) -> PlayedTape {
-        let mut buffer = lent_buffer(self.length, number);
-        let answer = play_line(&self.state, &self.tape, self.place, &mut buffer);
-        PlayedTape { answer, buffer }
+    pub fn play(&self, number: usize) -> Played<TapeAnswer> {
+        Played::new(self.length, number, |buffer| {
+            play_line(&self.state, &self.tape, self.place, buffer)
+        })
     }
 }
 
@@ -218,21 +212,15 @@ mod tests {
 
     #[test]
     fn waits_are_the_clocks_between_writes_and_clock_1000_is_not_reached() {
-        let write = RegisterWrite {
-            address: 0x0E,
-            value: 1,
-        };
-        let mut walk = Walk {
-            state: State::START,
-            writes: [WaitedWrite { wait: 249, write }; WALK_WRITES],
-        };
-        let clocks = |walk: &Walk| -> Vec<usize> {
-            let writes = walk.writes_by_clock();
-            (0..WALK_CLOCKS).filter(|&n| writes[n].is_some()).collect()
-        };
-        assert_eq!(clocks(&walk), [249, 499, 749, 999]);
-        walk.writes[0].wait = 250;
-        walk.writes[1].wait = 0;
-        assert_eq!(clocks(&walk), [250, 251, 501, 751]);
+        let write = ListedWrite::new(0, 0x0E, 1).write;
+        for (first, clocks) in [(249, [249, 499, 749, 999]), (250, [250, 500, 750, 0])] {
+            let mut writes = [WaitedWrite { wait: 249, write }; WALK_WRITES];
+            writes[0].wait = first;
+            let state = State::START;
+            let by_clock = Walk { state, writes }.writes_by_clock();
+            for (n, given) in by_clock.into_iter().enumerate() {
+                assert_eq!(given.is_some(), n > 0 && clocks.contains(&n));
+            }
+        }
     }
 }

@@ -9,41 +9,37 @@ use crate::reports::failure::Failure;
 use std::io::Write;
 
 /// A function that adds a group of cases.
-pub type Group<T> = fn(&mut Random, &mut Vec<T>);
+pub type Group<T> = fn(&Random, &mut Vec<T>);
 
-/// So many cases from a seed: the groups so many times over, then others.
-fn made<T>(
-    seed: u64,
-    number: usize,
-    rounds: usize,
-    groups: &[Group<T>],
-    other: fn(&mut Random) -> T,
-) -> Vec<T> {
-    let mut random = Random::new(seed);
+/// So many cases from a seed: the groups one after another, then others.
+fn made<T>(seed: u64, number: usize, groups: &[Group<T>], other: fn(&Random) -> T) -> Vec<T> {
+    let random = Random::new(seed);
     let mut cases = Vec::new();
-    for group in groups.repeat(rounds) {
-        group(&mut random, &mut cases);
+    for group in groups {
+        group(&random, &mut cases);
     }
     while cases.len() < number {
-        cases.push(other(&mut random));
+        cases.push(other(&random));
     }
     cases
 }
 
 /// The cases in the order of their records, each kind from a seed of its own.
 pub fn generate() -> Vec<Case> {
-    let singles = made(2600, 32_000, 5, &single_cases::GROUPS, single_cases::other);
-    let walks = walk_cases::generate(&mut Random::new(2601), 320);
-    let lines = made(2602, 32_000, 5, &line_cases::GROUPS, line_cases::other);
-    let runs = made(2603, 3_000, 1, &run_cases::GROUPS, run_cases::other);
-    let tapes = made(2604, 24_000, 4, &tape_cases::GROUPS, tape_cases::other);
-    let clocks = singles.into_iter().map(Case::Clock);
-    clocks
-        .chain(walks.into_iter().map(Case::Walk))
-        .chain(lines.into_iter().map(Case::Line))
-        .chain(runs.into_iter().map(Case::Run))
-        .chain(tapes.into_iter().map(Case::Tape))
-        .collect()
+    let singles = single_cases::GROUPS.repeat(5);
+    let singles = made(2600, 32_000, &singles, single_cases::other);
+    let walks = made(2601, 320, &[], walk_cases::walk);
+    let lines = line_cases::GROUPS.repeat(5);
+    let lines = made(2602, 32_000, &lines, line_cases::other);
+    let runs = made(2603, 3_000, &run_cases::GROUPS, run_cases::other);
+    let tapes = tape_cases::GROUPS.repeat(4);
+    let tapes = made(2604, 24_000, &tapes, tape_cases::other);
+    let mut cases: Vec<Case> = singles.into_iter().map(Case::Clock).collect();
+    cases.extend(walks.into_iter().map(Case::Walk));
+    cases.extend(lines.into_iter().map(Case::Line));
+    cases.extend(runs.into_iter().map(Case::Run));
+    cases.extend(tapes.into_iter().map(Case::Tape));
+    cases
 }
 
 /// Writes the records of the cases. Writes nothing if the cases miss something; ends early with

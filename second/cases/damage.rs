@@ -7,13 +7,16 @@ use crate::cases::spoil::{other_version, set_length, BAD_LENGTHS};
 use crate::model::tape::stretch;
 
 /// A way of damaging a tape that is not empty.
-pub type Damage = fn(&mut Random, &mut Vec<u8>);
+pub type Damage = fn(&Random, &mut Vec<u8>);
 
-/// Every way, with its name.
+/// Every way, with its name. What is to be changed in a record stays on a tape without writes.
 pub const DAMAGES: [(&str, Damage); 8] = [
-    ("byte_flipped", flip_byte),
+    ("byte_flipped", |random, tape| {
+        let index = random.index(tape.len());
+        tape[index] ^= random.pick(&[1 << random.up_to(7), random.between(1, 255)]);
+    }),
     ("cut", |random, tape| {
-        tape.truncate(random.index(tape.len()))
+        tape.truncate(random.index(tape.len()));
     }),
     ("byte_inserted", |random, tape| {
         tape.insert(random.index(tape.len() + 1), random.byte());
@@ -25,20 +28,16 @@ pub const DAMAGES: [(&str, Damage); 8] = [
     ("version_changed", |random, tape| {
         tape[0] = other_version(random);
     }),
-    ("clock_changed", change_clock),
-    ("register_changed", change_register),
+    ("clock_changed", |random, tape| {
+        change_record(random, tape, 0, &[random.byte(), 228, 255, 0]);
+    }),
+    ("register_changed", |random, tape| {
+        change_record(random, tape, 1, &unknown_addresses());
+    }),
 ];
 
-/// Flips one bit or more of a byte.
-fn flip_byte(random: &mut Random, tape: &mut Vec<u8>) {
-    let index = random.index(tape.len());
-    let one_bit = 1 << random.up_to(7);
-    let some_bits = random.between(1, 255);
-    tape[index] ^= random.pick(&[one_bit, some_bits]);
-}
-
 /// Changes the length of a line; a tape without lines stays as it is.
-fn change_length(random: &mut Random, tape: &mut Vec<u8>) {
+fn change_length(random: &Random, tape: &mut Vec<u8>) {
     let places = line_places(tape);
     if !places.is_empty() {
         let place = random.pick(&places);
@@ -49,30 +48,14 @@ fn change_length(random: &mut Random, tape: &mut Vec<u8>) {
     }
 }
 
-/// Changes the clock of a record: to any byte, to one over 227 or to 0; a tape without writes
-/// stays as it is.
-fn change_clock(random: &mut Random, tape: &mut Vec<u8>) {
-    if let Some(record) = any_record(random, tape) {
-        let any = random.byte();
-        tape[record] = random.pick(&[any, 228, 255, 0]);
+/// Makes a byte of any record, 0 for its clock and 1 for its address, one of these.
+fn change_record(random: &Random, tape: &mut [u8], byte: usize, changed: &[u8]) {
+    let mut records = Vec::new();
+    for place in line_places(tape) {
+        let start = place as usize + 2;
+        records.extend((start..start + stretch(tape, place).len()).step_by(3));
     }
-}
-
-/// Changes the address of a record to an unknown one; a tape without writes stays as it is.
-fn change_register(random: &mut Random, tape: &mut Vec<u8>) {
-    if let Some(record) = any_record(random, tape) {
-        tape[record + 1] = random.pick(&unknown_addresses());
+    if !records.is_empty() {
+        tape[random.pick(&records) + byte] = random.pick(changed);
     }
-}
-
-/// The index of the first byte of any record; none on a tape without writes.
-fn any_record(random: &mut Random, tape: &[u8]) -> Option<usize> {
-    let mut places = line_places(tape);
-    places.retain(|&place| !stretch(tape, place).is_empty());
-    if places.is_empty() {
-        return None;
-    }
-    let place = random.pick(&places);
-    let records = stretch(tape, place).len() / 3;
-    Some(place as usize + 2 + 3 * random.index(records))
 }

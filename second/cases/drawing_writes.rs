@@ -5,30 +5,26 @@ use crate::model::lit::lit;
 use crate::model::registers::Register;
 use crate::model::state::State;
 
-impl Register {
-    /// Whether it is one of the registers that steps 8 and 9 read.
-    pub fn is_for_drawing(self) -> bool {
-        !matches!(
-            self,
-            Register::Strobe(_)
-                | Register::Motion(_)
-                | Register::Hmove
-                | Register::Hmclr
-                | Register::Cxclr
-        )
-    }
+/// Whether a register is one of those that steps 8 and 9 read.
+pub fn is_for_drawing(register: Register) -> bool {
+    !matches!(
+        register,
+        Register::Strobe(_)
+            | Register::Motion(_)
+            | Register::Hmove
+            | Register::Hmclr
+            | Register::Cxclr
+    )
 }
 
-impl Done {
-    /// Whether the write to a drawing register changed what is lit on the clock of the write.
-    pub fn write_changed_lit(&self, given: &State) -> bool {
-        let unwritten = State {
-            h: given.h,
-            registers: given.registers,
-            ..self.state
-        };
-        lit(&unwritten) != self.lit
-    }
+/// Whether the write to a drawing register changed what is lit on the clock of the write.
+pub fn write_changed_lit(given: &State, done: &Done) -> bool {
+    let unwritten = State {
+        h: given.h,
+        registers: given.registers,
+        ..done.state
+    };
+    lit(&unwritten) != done.lit
 }
 
 #[cfg(test)]
@@ -44,10 +40,11 @@ mod tests {
         state.objects[M0].position = 50;
         state.objects[M0].age = 3;
         state.registers.enam[0] = true;
-        for (address, value, changed) in [(0x1D, 0, true), (0x1D, 2, false), (0x12, 0, false)] {
+        let cases = [(0x1D, 0, true), (0x1D, 2, false), (0x12, 0, false)];
+        for (address, value, changed) in cases {
             let done = run(&state, Some(RegisterWrite { address, value })).unwrap();
-            assert_eq!(done.write_changed_lit(&state), changed);
+            assert_eq!(write_changed_lit(&state, &done), changed);
         }
-        assert!(!run(&state, None).unwrap().write_changed_lit(&state));
+        assert!(!write_changed_lit(&state, &run(&state, None).unwrap()));
     }
 }

@@ -30,23 +30,21 @@ pub const GROUPS: [Group<LineCase>; 7] = [
 ];
 
 /// A call with a random list, some of them spoilt.
-pub fn other(random: &mut Random) -> LineCase {
+pub fn other(random: &Random) -> LineCase {
     random_case(random, 12)
 }
 
 /// A call with a random list; one in so many times it has a fault, as often a further one.
-pub fn random_case(random: &mut Random, spoilt_in: u8) -> LineCase {
-    let list = free_list(random);
-    let mut case = case_with(random, &list);
+pub fn random_case(random: &Random, spoilt_in: u8) -> LineCase {
+    let mut case = case_with(random, &free_list(random));
     while random.one_in(spoilt_in) {
-        let fault = random.between(1, 7);
-        spoil(random, &mut case, fault);
+        spoil(random, &mut case, random.between(1, 7));
     }
     case
 }
 
 /// A call with a list, without faults of state and buffer.
-fn case_with(random: &mut Random, list: &[ListedWrite]) -> LineCase {
+fn case_with(random: &Random, list: &[ListedWrite]) -> LineCase {
     LineCase {
         state: line_start_state(random),
         call: Call::with(list),
@@ -54,13 +52,26 @@ fn case_with(random: &mut Random, list: &[ListedWrite]) -> LineCase {
 }
 
 /// A call without faults and with a short list.
-pub fn short_case(random: &mut Random) -> LineCase {
-    let list = short_list(random);
-    case_with(random, &list)
+pub fn short_case(random: &Random) -> LineCase {
+    case_with(random, &short_list(random))
+}
+
+/// Adds calls with short lists, one for each item, changed by it.
+fn add_changed<T>(
+    random: &Random,
+    cases: &mut Vec<LineCase>,
+    items: impl IntoIterator<Item = T>,
+    change: impl Fn(&mut LineCase, T),
+) {
+    for item in items {
+        let mut case = short_case(random);
+        change(&mut case, item);
+        cases.push(case);
+    }
 }
 
 /// The bench checks, each line from the state that the line before handed back.
-fn bench_checks(_: &mut Random, cases: &mut Vec<LineCase>) {
+fn bench_checks(_: &Random, cases: &mut Vec<LineCase>) {
     for check in checks() {
         let mut state = State::START;
         for line in check.lines {
@@ -74,15 +85,13 @@ fn bench_checks(_: &mut Random, cases: &mut Vec<LineCase>) {
 
 /// Lists of no writes, of one, of two and of one a clock; each register alone in its list; and
 /// HMOVE at each clock among other writes, more often at the edges of its rules.
-fn lists(random: &mut Random, cases: &mut Vec<LineCase>) {
+fn lists(random: &Random, cases: &mut Vec<LineCase>) {
     for number in [0, 0, 0, 0, 0, 0, 0, 0, 1, 1, 2, 2, 228].repeat(10) {
-        let list = list_of_length(random, number);
-        cases.push(case_with(random, &list));
+        cases.push(case_with(random, &list_of_length(random, number)));
     }
     for (address, _, _) in KNOWN.repeat(8) {
-        let clock = random.up_to(227);
-        let list = [write_at(random, clock, address)];
-        cases.push(case_with(random, &list));
+        let write = write_at(random, random.up_to(227), address);
+        cases.push(case_with(random, &[write]));
     }
     let edges = [0, 9, 15, 16, 67, 68, 163, 164, 227];
     for clock in (0..228).chain(edges.repeat(6)) {
@@ -95,9 +104,8 @@ fn lists(random: &mut Random, cases: &mut Vec<LineCase>) {
 /// States in which all objects and the playfield can be lit; the late flag set as the line begins,
 /// with HMOVE at 0 and with a short list; and each slot as it begins, the live flags being set at
 /// most of those below 16.
-fn states(random: &mut Random, cases: &mut Vec<LineCase>) {
-    for _ in 0..200 {
-        let mut case = short_case(random);
+fn states(random: &Random, cases: &mut Vec<LineCase>) {
+    add_changed(random, cases, 0..200, |case, _| {
         let registers = &mut case.state.registers;
         for graphic in registers.grp_new.iter_mut().chain(&mut registers.grp_old) {
             *graphic |= 0b0001_1000;
@@ -106,27 +114,24 @@ fn states(random: &mut Random, cases: &mut Vec<LineCase>) {
         registers.enabl_new = true;
         registers.enabl_old = true;
         registers.pf1 |= 0b0010_0000;
-        cases.push(case);
-    }
-    for _ in 0..10 {
-        let hmove = [hmove_at(random, 0)];
-        for mut case in [case_with(random, &hmove), short_case(random)] {
-            case.state.late = true;
-            cases.push(case);
+    });
+    add_changed(random, cases, [false, true].repeat(10), |case, hmove| {
+        case.state.late = true;
+        if hmove {
+            case.call = Call::with(&[hmove_at(random, 0)]);
         }
-    }
-    for slot in (0..=NO_MOTION).chain(0..=NO_MOTION) {
-        let mut case = short_case(random);
+    });
+    let slots = (0..=NO_MOTION).chain(0..=NO_MOTION);
+    add_changed(random, cases, slots, |case, slot| {
         case.state.slot = slot;
         for object in &mut case.state.objects {
             object.live = slot < NO_MOTION && !random.one_in(3);
         }
-        cases.push(case);
-    }
+    });
 }
 
 /// Each object and the playfield first lit at columns at the edges.
-fn first_columns(random: &mut Random, cases: &mut Vec<LineCase>) {
+fn first_columns(random: &Random, cases: &mut Vec<LineCase>) {
     for column in [0, 1, 80, 158, 159].repeat(5) {
         for object in 0..5 {
             let mut case = case_with(random, &[]);
@@ -165,37 +170,28 @@ fn state_with_column(given: &State, object: usize, column: u8) -> State {
 
 /// Each fault of a whole call alone: each of a state, h not 0, buffers of each refused length, with
 /// a list and without, and lists of each refused length up to 768.
-fn call_faults(random: &mut Random, cases: &mut Vec<LineCase>) {
-    for state in faulty_states(random, line_start_state) {
-        let call = short_case(random).call;
-        cases.push(LineCase { state, call });
-    }
-    for h in [1, 2, 67, 68, 128, 226, 227].repeat(4) {
-        let mut case = short_case(random);
-        case.state.h = h;
-        cases.push(case);
-    }
-    for length in BAD_BUFFERS.repeat(6) {
-        let mut case = short_case(random);
+fn call_faults(random: &Random, cases: &mut Vec<LineCase>) {
+    let states = faulty_states(random, line_start_state);
+    add_changed(random, cases, states, |case, state| case.state = state);
+    let clocks = [1, 2, 67, 68, 128, 226, 227].repeat(4);
+    add_changed(random, cases, clocks, |case, h| case.state.h = h);
+    add_changed(random, cases, BAD_BUFFERS.repeat(6), |case, length| {
         case.call.length = length;
         if random.one_in(3) {
             case.call.list.clear();
         }
-        cases.push(case);
-    }
-    for length in BAD_LENGTHS.repeat(2) {
-        if length <= 768 {
-            let list = list_of_length(random, 228);
-            let mut case = case_with(random, &list);
-            resize(random, &mut case.call.list, usize::from(length));
-            cases.push(case);
-        }
-    }
+    });
+    let mut lengths = BAD_LENGTHS.repeat(2);
+    lengths.retain(|&length| length <= 768);
+    add_changed(random, cases, lengths, |case, length| {
+        case.call = Call::with(&list_of_length(random, 228));
+        resize(random, &mut case.call.list, usize::from(length));
+    });
 }
 
 /// Each fault of a record alone: in the first record, the second, one between and the last, and
 /// in the last of 228; and each unknown register.
-fn record_faults(random: &mut Random, cases: &mut Vec<LineCase>) {
+fn record_faults(random: &Random, cases: &mut Vec<LineCase>) {
     for fault in [5, 6, 7].repeat(8) {
         for place in 0..5 {
             let mut list = match place {
@@ -218,14 +214,12 @@ fn record_faults(random: &mut Random, cases: &mut Vec<LineCase>) {
 
 /// Every two faults that can be told apart: the first one of the whole call; in an earlier and a
 /// later record; and in one record.
-fn two_faults(random: &mut Random, cases: &mut Vec<LineCase>) {
+fn two_faults(random: &Random, cases: &mut Vec<LineCase>) {
     for first in [1, 2, 3, 4].repeat(6) {
-        for second in first + 1..=7 {
-            let mut case = short_case(random);
-            spoil(random, &mut case, second);
-            spoil(random, &mut case, first);
-            cases.push(case);
-        }
+        add_changed(random, cases, first + 1..=7, |case, second| {
+            spoil(random, case, second);
+            spoil(random, case, first);
+        });
     }
     for first in [5, 6, 7].repeat(6) {
         for second in [5, 6, 7] {

@@ -2,10 +2,11 @@
 //! bad ones.
 
 use crate::cases::random::Random;
-use crate::cases::state_fields::{checked_fields, from_bytes, to_bytes, FIELDS, LENGTH};
+use crate::cases::state_fields::{checked_fields, from_bytes, to_bytes, FIELDS};
 use crate::model::lit::lit_ages;
 use crate::model::registers::Registers;
 use crate::model::state::{State, NO_MOTION};
+use std::array;
 
 /// Clocks at the edges of the line, of the horizontal blank and of the blank columns.
 const EDGE_CLOCKS: [u8; 12] = [0, 1, 66, 67, 68, 69, 74, 75, 76, 77, 226, 227];
@@ -14,12 +15,8 @@ const EDGE_CLOCKS: [u8; 12] = [0, 1, 66, 67, 68, 69, 74, 75, 76, 77, 226, 227];
 const EDGE_POSITIONS: [u8; 12] = [158, 159, 0, 14, 15, 16, 30, 31, 32, 62, 63, 64];
 
 /// A good state with each field drawn evenly from its range.
-pub fn even_state(random: &mut Random) -> State {
-    let mut bytes = [0; LENGTH];
-    for (byte, field) in bytes.iter_mut().zip(&FIELDS) {
-        *byte = field.draw(random);
-    }
-    let mut state = from_bytes(&bytes);
+pub fn even_state(random: &Random) -> State {
+    let mut state = from_bytes(&array::from_fn(|n| FIELDS[n].draw(random)));
     clear_live_flags_without_motion(&mut state);
     state
 }
@@ -33,9 +30,14 @@ fn clear_live_flags_without_motion(state: &mut State) {
 
 /// A good state drawn towards the edges: of the line, of the starts, of the lit ages and of
 /// motion; objects are mostly lit or about to be.
-pub fn edge_state(random: &mut Random) -> State {
+pub fn edge_state(random: &Random) -> State {
     let mut state = even_state(random);
-    state.h = edge_clock(random);
+    state.h = match random.up_to(4) {
+        0 => random.pick(&EDGE_CLOCKS),
+        1 => 4 * random.up_to(56),
+        2 | 3 => random.between(68, 227),
+        _ => state.h,
+    };
     light_registers(random, &mut state.registers);
     for n in 0..5 {
         if random.flag() {
@@ -50,32 +52,29 @@ pub fn edge_state(random: &mut Random) -> State {
     state
 }
 
-/// A clock, most often one at an edge, a multiple of 4 or a visible one.
-fn edge_clock(random: &mut Random) -> u8 {
-    match random.up_to(4) {
-        0 => random.pick(&EDGE_CLOCKS),
-        1 => 4 * random.up_to(56),
-        2 | 3 => random.between(68, 227),
-        _ => random.up_to(227),
+/// A good state, mostly drawn towards the edges, one in six evenly.
+pub fn good_state(random: &Random) -> State {
+    match random.one_in(6) {
+        true => even_state(random),
+        false => edge_state(random),
     }
 }
 
 /// Makes graphics full more often and enables set more often.
-fn light_registers(random: &mut Random, registers: &mut Registers) {
+fn light_registers(random: &Random, registers: &mut Registers) {
     for graphic in registers.grp_new.iter_mut().chain(&mut registers.grp_old) {
         if random.one_in(3) {
             *graphic = 255;
         }
     }
-    for enable in &mut registers.enam {
+    let ball = [&mut registers.enabl_new, &mut registers.enabl_old];
+    for enable in registers.enam.iter_mut().chain(ball) {
         *enable |= random.flag();
     }
-    registers.enabl_new |= random.flag();
-    registers.enabl_old |= random.flag();
 }
 
 /// An age, most often one that is lit or next to those that are.
-fn edge_age(random: &mut Random, state: &State, object: usize) -> u8 {
+fn edge_age(random: &Random, state: &State, object: usize) -> u8 {
     let (first, last) = lit_ages(state, object);
     match random.up_to(4) {
         0 | 1 => random.pick(&[first - 2, first - 1, first, last - 1, last, last + 1]),
@@ -84,30 +83,20 @@ fn edge_age(random: &mut Random, state: &State, object: usize) -> u8 {
     }
 }
 
-/// Draws the slot: none under way, the first, the last, or one at which an object's comparison
-/// is equal.
-fn draw_slot(random: &mut Random, state: &mut State) {
-    match random.up_to(5) {
-        0 => state.slot = NO_MOTION,
-        1 => state.slot = 0,
-        2 => state.slot = 15,
-        3 | 4 => {
-            let object = random.index(5);
-            state.slot = state.objects[object].end_slot();
-            state.objects[object].live = true;
-        }
-        _ => {}
-    }
+/// Draws the slot: as it is, none under way, the first, the last, or one at which an object's
+/// comparison is equal.
+fn draw_slot(random: &Random, state: &mut State) {
+    let object = &mut state.objects[random.index(5)];
+    let equal = object.end_slot();
+    state.slot = random.pick(&[state.slot, NO_MOTION, 0, 15, equal, equal]);
+    object.live |= state.slot == equal;
     clear_live_flags_without_motion(state);
 }
 
 /// A good state with h = 0; every other time no motion is under way, at times the playfield is
 /// dark.
-pub fn line_start_state(random: &mut Random) -> State {
-    let mut state = match random.one_in(4) {
-        true => even_state(random),
-        false => edge_state(random),
-    };
+pub fn line_start_state(random: &Random) -> State {
+    let mut state = good_state(random);
     state.h = 0;
     if random.flag() {
         state = without_motion(&state);
@@ -127,10 +116,8 @@ pub fn set_playfield(registers: &mut Registers, byte: u8) {
 
 /// The state with no motion under way.
 pub fn without_motion(state: &State) -> State {
-    let mut state = State {
-        slot: NO_MOTION,
-        ..*state
-    };
+    let mut state = *state;
+    state.slot = NO_MOTION;
     clear_live_flags_without_motion(&mut state);
     state
 }
@@ -150,22 +137,18 @@ fn with_live_flag(state: &State, object: usize) -> State {
 }
 
 /// A byte out of a checked field's range.
-fn byte_beyond(random: &mut Random, field: usize) -> u8 {
-    loop {
-        let byte = random.byte();
-        if !FIELDS[field].has(byte) {
-            return byte;
-        }
-    }
+fn byte_beyond(random: &Random, field: usize) -> u8 {
+    let beyond = |byte: &u8| !FIELDS[field].has(*byte);
+    let bytes: Vec<u8> = (0..=255).filter(beyond).collect();
+    random.pick(&bytes)
 }
 
 /// Each single fault of refusal 1, each time in another of these good states: each checked field
 /// next to its range, at 255 and anywhere out of it, and three times each live flag with slot 16.
-pub fn faulty_states(random: &mut Random, good: fn(&mut Random) -> State) -> Vec<State> {
+pub fn faulty_states(random: &Random, good: fn(&Random) -> State) -> Vec<State> {
     let mut states = Vec::new();
     for (n, field) in checked_fields() {
-        let anywhere = byte_beyond(random, n);
-        for byte in field.beyond().into_iter().chain([anywhere]) {
+        for byte in [field.beyond(), vec![byte_beyond(random, n)]].concat() {
             states.push(with_field(&good(random), n, byte));
         }
     }
@@ -176,7 +159,7 @@ pub fn faulty_states(random: &mut Random, good: fn(&mut Random) -> State) -> Vec
 }
 
 /// The state with one fault of refusal 1, h being as it is.
-pub fn with_fault(random: &mut Random, state: &State) -> State {
+pub fn with_fault(random: &Random, state: &State) -> State {
     if random.one_in(6) {
         return with_live_flag(state, random.index(5));
     }
@@ -186,7 +169,7 @@ pub fn with_fault(random: &mut Random, state: &State) -> State {
 }
 
 /// A bad state: one to four faults, h out of range among them.
-pub fn bad_state(random: &mut Random) -> State {
+pub fn bad_state(random: &Random) -> State {
     let mut state = edge_state(random);
     for _ in 0..=random.up_to(2) {
         state = with_fault(random, &state);

@@ -1,11 +1,11 @@
 //! The records of the case file, written and read: one byte for the kind, the 61 bytes of the
 //! state, and what a case of that kind has beside it.
 
-use crate::cases::case::{
-    Call, Case, LineCase, RunCase, Single, TapeCase, WaitedWrite, Walk, RUN_CALLS,
-};
+use crate::cases::case::{Call, Case, LineCase, RunCase, Single, TapeCase, WaitedWrite, Walk};
+use crate::cases::case::{RUN_CALLS, WALK_WRITES};
 use crate::cases::state_fields::{from_bytes, to_bytes};
 use crate::model::clock::RegisterWrite;
+use crate::model::write_list::records;
 use crate::reports::failure::Failure;
 use std::array;
 use std::iter;
@@ -28,33 +28,27 @@ impl Case {
     /// The case's record.
     pub fn write(&self) -> Vec<u8> {
         let (state, rest) = match self {
-            Case::Clock(single) => {
-                let write = single
-                    .write
-                    .map(|write| vec![1, write.address, write.value]);
-                (&single.state, write.unwrap_or(vec![0; 3]))
+            Case::Clock(Single { state, write }) => {
+                let write = write.map(|write| [1, write.address, write.value]);
+                (state, write.unwrap_or([0; 3]).to_vec())
             }
-            Case::Walk(walk) => {
-                let mut rest = vec![0; 3];
-                for waited in &walk.writes {
-                    rest.extend([waited.wait, waited.write.address, waited.write.value]);
-                }
-                (&walk.state, rest)
+            Case::Walk(Walk { state, writes }) => {
+                let bytes = |w: &WaitedWrite| [w.wait, w.write.address, w.write.value];
+                let writes: Vec<u8> = writes.iter().flat_map(bytes).collect();
+                (state, [vec![0; 3], writes].concat())
             }
-            Case::Line(line) => (&line.state, call_bytes(&line.call)),
-            Case::Run(run) => {
-                let mut rest = vec![0; 3];
-                rest.extend(run.calls.iter().flat_map(call_bytes));
-                (&run.state, rest)
+            Case::Line(LineCase { state, call }) => (state, call_bytes(call)),
+            Case::Run(RunCase { state, calls }) => {
+                let calls: Vec<u8> = calls.iter().flat_map(call_bytes).collect();
+                (state, [vec![0; 3], calls].concat())
             }
-            Case::Tape(tape) => {
-                let mut rest = vec![tape.length];
-                rest.extend(tape.place.to_be_bytes());
-                rest.extend(list_bytes(&tape.tape));
-                (&tape.state, rest)
+            Case::Tape(case) => {
+                let place = case.place.to_be_bytes();
+                let rest = [&[case.length], &place[..], &list_bytes(&case.tape)].concat();
+                (&case.state, rest)
             }
         };
-        [&[self.kind() as u8][..], &to_bytes(state), &rest].concat()
+        [&[self.kind() as u8], &to_bytes(state)[..], &rest].concat()
     }
 
     /// The case of the record that the file begins with, which is taken off it; none if the record
@@ -70,13 +64,10 @@ impl Case {
             }
             1 => {
                 let [_, _, _] = take(file)?;
-                let triples: [u8; 192] = take(file)?;
+                let listed = records(&take::<{ 3 * WALK_WRITES }>(file)?);
                 let writes = array::from_fn(|n| WaitedWrite {
-                    wait: triples[3 * n],
-                    write: RegisterWrite {
-                        address: triples[3 * n + 1],
-                        value: triples[3 * n + 2],
-                    },
+                    wait: listed[n].clock,
+                    write: listed[n].write,
                 });
                 Case::Walk(Walk { state, writes })
             }
@@ -86,11 +77,9 @@ impl Case {
             }
             3 => {
                 let [_, _, _] = take(file)?;
-                let calls: Option<Vec<Call>> = (0..RUN_CALLS).map(|_| read_call(file)).collect();
-                Case::Run(RunCase {
-                    state,
-                    calls: calls?,
-                })
+                let calls = (0..RUN_CALLS).map(|_| read_call(file));
+                let calls = calls.collect::<Option<Vec<Call>>>()?;
+                Case::Run(RunCase { state, calls })
             }
             4 => {
                 let [length] = take(file)?;
@@ -164,6 +153,7 @@ mod tests {
     use crate::cases::chip_cases::generate;
     use crate::cases::state_fields::LENGTH;
     use crate::model::state::State;
+    use crate::model::write_list::ListedWrite;
 
     #[test]
     fn the_reader_gives_back_every_case_that_the_writer_wrote() {
@@ -176,36 +166,30 @@ mod tests {
     #[test]
     fn records_are_laid_out_as_the_readme_says() {
         let state = State::START;
-        let after_the_state = |case: Case| case.write()[1 + LENGTH..].to_vec();
-        let write = Some(RegisterWrite {
-            address: 0x0E,
-            value: 7,
-        });
-        let single = Single { state, write };
-        assert_eq!(after_the_state(Case::Clock(single)), [1, 0x0E, 7]);
-        let call = Call {
-            length: 255,
-            list: vec![5; 300],
-        };
-        let line = LineCase { state, call };
-        assert_eq!(after_the_state(Case::Line(line))[..5], [255, 1, 44, 5, 5]);
+        let write = Some(ListedWrite::new(0, 0x0E, 7).write);
+        let list = vec![5; 300];
+        let call = Call { length: 255, list };
+        let list = [&[255, 1, 44], &[5; 300][..]].concat();
         let tape = TapeCase::new(state, vec![1, 0, 0], 0x0102_0304_0506_07FE);
-        let expected = [160, 1, 2, 3, 4, 5, 6, 7, 0xFE, 0, 3, 1, 0, 0];
-        assert_eq!(after_the_state(Case::Tape(tape)), expected);
+        let bytes = vec![160, 1, 2, 3, 4, 5, 6, 7, 0xFE, 0, 3, 1, 0, 0];
+        for (case, after_the_state) in [
+            (Case::Clock(Single { state, write }), vec![1, 0x0E, 7]),
+            (Case::Line(LineCase { state, call }), list),
+            (Case::Tape(tape), bytes),
+        ] {
+            assert_eq!(case.write()[1 + LENGTH..], after_the_state);
+        }
     }
 
     #[test]
     fn a_cut_record_and_an_unknown_kind_are_named_and_end_the_file() {
-        let run = Case::Run(RunCase::of_lines(State::START, &[]));
-        let mut file = [run.write(), run.write()].concat();
-        let named = |file: &[u8]| cases_of(file).skip(1).collect::<Vec<_>>();
+        let run = Case::Run(RunCase::of_lines(State::START, &[])).write();
         let text = "record 1 is cut or of an unknown kind\n";
-        let failed = [Err(Failure::Named(text.to_string()))];
-        for length in [file.len() - 1, file.len() / 2 + 1] {
-            assert_eq!(named(&file[..length]), failed);
+        let unknown = [&[KINDS.len() as u8], &run[1..]].concat();
+        for second in [&run[..run.len() - 1], &run[..1], &unknown] {
+            let file = [&run[..], second].concat();
+            let after: Vec<Result<Case, Failure>> = cases_of(&file).skip(1).collect();
+            assert_eq!(after, [Err(Failure::Named(text.to_string()))]);
         }
-        let second = file.len() / 2;
-        file[second] = KINDS.len() as u8;
-        assert_eq!(named(&file), failed);
     }
 }

@@ -30,24 +30,28 @@ const SECOND_HMOVES: [u8; 12] = [2, 3, 5, 8, 12, 15, 16, 40, 67, 68, 150, 227];
 /// The groups in their order.
 pub const GROUPS: [Group<RunCase>; 2] = [bench_checks, failing_runs];
 
+/// The records of a line.
+type Line = Vec<ListedWrite>;
+
 /// Of each five runs three that keep the premises of an object, and two of any lists.
-pub fn other(random: &mut Random) -> RunCase {
-    let object = random.index(5);
+pub fn other(random: &Random) -> RunCase {
     match random.up_to(4) {
-        0..=2 => moving_run(random, object),
-        _ => free_run(random),
+        0..=2 => moving_run(random, random.index(5)),
+        _ => RunCase {
+            state: line_start_state(random),
+            calls: calls_of(random, 6, || free_list(random)),
+        },
     }
 }
 
 /// The bench checks.
-fn bench_checks(_: &mut Random, runs: &mut Vec<RunCase>) {
-    for check in checks() {
-        runs.push(RunCase::of_lines(State::START, &check.lines));
-    }
+fn bench_checks(_: &Random, runs: &mut Vec<RunCase>) {
+    let checks = checks().into_iter();
+    runs.extend(checks.map(|check| RunCase::of_lines(State::START, &check.lines)));
 }
 
 /// Runs that but for one line keep the premises of an object.
-fn failing_runs(random: &mut Random, runs: &mut Vec<RunCase>) {
+fn failing_runs(random: &Random, runs: &mut Vec<RunCase>) {
     for object in 0..5 {
         for line in failing_lines(random, object) {
             let mut run = moving_run(random, object);
@@ -57,56 +61,39 @@ fn failing_runs(random: &mut Random, runs: &mut Vec<RunCase>) {
     }
 }
 
-/// A run of any lists, one in six of them refused.
-fn free_run(random: &mut Random) -> RunCase {
-    RunCase {
-        state: line_start_state(random),
-        calls: (0..RUN_CALLS)
-            .map(|_| match random.one_in(6) {
-                true => refused_call(random),
-                false => Call::with(&free_list(random)),
-            })
-            .collect(),
-    }
-}
-
-/// A call with any list that is refused, with 3 to 7.
-fn refused_call(random: &mut Random) -> Call {
-    let mut call = Call::with(&free_list(random));
-    let fault = random.between(3, 7);
-    spoil_call(random, &mut call, fault);
-    call
+/// The calls of a run with these lines; one in so many is refused instead, with 3 to 7.
+fn calls_of(random: &Random, refused_in: u8, line: impl Fn() -> Line) -> Vec<Call> {
+    let calls = (0..RUN_CALLS).map(|_| {
+        let refused = random.one_in(refused_in);
+        let list = if refused { free_list(random) } else { line() };
+        let mut call = Call::with(&list);
+        if refused {
+            spoil_call(random, &mut call, random.between(3, 7));
+        }
+        call
+    });
+    calls.collect()
 }
 
 /// The lines that fail the premises of an object, by setting motion values after an HMOVE, by an
 /// HMOVE too late, by a second one and by the object's strobe.
-fn failing_lines(random: &mut Random, object: usize) -> Vec<Vec<ListedWrite>> {
+fn failing_lines(random: &Random, object: usize) -> Vec<Line> {
+    let any = LATE_MOTION.map(|clock| (random.between(8, 15), clock));
+    let latest = (8..=15).map(|hmove| (hmove, 72));
     let mut lines = Vec::new();
-    for clear in [false, true] {
-        for clock in LATE_MOTION {
-            let hmove = random.between(8, 15);
-            lines.push(late_motion(random, object, hmove, clock, clear));
-        }
-        for hmove in 8..=15 {
-            lines.push(late_motion(random, object, hmove, 72, clear));
-        }
+    for (hmove, clock) in any.into_iter().chain(latest) {
+        let clears = [false, true];
+        lines.extend(clears.map(|clear| late_motion(random, object, hmove, clock, clear)));
     }
-    for clock in LATE_HMOVES {
-        lines.push(late_hmove(random, object, clock));
-    }
-    for second in SECOND_HMOVES {
-        lines.push(two_hmoves(random, object, second));
-    }
-    for _ in 0..6 {
-        let clock = random.up_to(227);
-        let address = address_of(Register::Strobe(object));
-        lines.push(vec![write_at(random, clock, address)]);
-    }
+    lines.extend(LATE_HMOVES.map(|clock| late_hmove(random, object, clock)));
+    lines.extend(SECOND_HMOVES.map(|second| two_hmoves(random, object, second)));
+    let strobe = address_of(Register::Strobe(object));
+    lines.extend((0..6).map(|_| vec![write_at(random, random.up_to(227), strobe)]));
     lines
 }
 
 /// A write that gives an object the motion value whose comparison is equal at this slot.
-fn motion_at(random: &mut Random, clock: u8, object: usize, end_slot: u8) -> ListedWrite {
+fn motion_at(random: &Random, clock: u8, object: usize, end_slot: u8) -> ListedWrite {
     let half_byte = (end_slot + 8) % 16;
     let value = half_byte << 4 | random.up_to(15);
     ListedWrite::new(clock, address_of(Register::Motion(object)), value)
@@ -116,21 +103,13 @@ fn motion_at(random: &mut Random, clock: u8, object: usize, end_slot: u8) -> Lis
 /// clock after it. The object's comparison would be equal at the first comparison from that clock
 /// on, and is not because of the write; where HMCLR would make it equal there, it would be equal
 /// at the next.
-fn late_motion(
-    random: &mut Random,
-    object: usize,
-    hmove: u8,
-    clock: u8,
-    clear: bool,
-) -> Vec<ListedWrite> {
+fn late_motion(random: &Random, object: usize, hmove: u8, clock: u8, clear: bool) -> Line {
     let slot = ((clock + 3) / 4 - (hmove / 4 + 1)).min(15);
     let end_slot = if clear && slot == 8 { 9 } else { slot };
+    let other_slot = (end_slot + random.between(1, 15)) % 16;
     let late = match clear {
         true => write_at(random, clock, address_of(Register::Hmclr)),
-        false => {
-            let other = (end_slot + random.between(1, 15)) % 16;
-            motion_at(random, clock, object, other)
-        }
+        false => motion_at(random, clock, object, other_slot),
     };
     let before = motion_at(random, 0, object, end_slot);
     vec![before, hmove_at(random, hmove), late]
@@ -138,7 +117,7 @@ fn late_motion(
 
 /// A line with an HMOVE at a clock from 16 on, and a motion value for which too few comparisons
 /// are left in the line's blank.
-fn late_hmove(random: &mut Random, object: usize, clock: u8) -> Vec<ListedWrite> {
+fn late_hmove(random: &Random, object: usize, clock: u8) -> Line {
     let comparisons = if clock < 68 { 18 - clock / 4 } else { 14 };
     let end_slot = random.between(comparisons + 1, 15);
     let before = motion_at(random, 0, object, end_slot);
@@ -146,7 +125,7 @@ fn late_hmove(random: &mut Random, object: usize, clock: u8) -> Vec<ListedWrite>
 }
 
 /// A line with an HMOVE at 1 to 15 and a second one at a clock, and motion value 7.
-fn two_hmoves(random: &mut Random, object: usize, second: u8) -> Vec<ListedWrite> {
+fn two_hmoves(random: &Random, object: usize, second: u8) -> Line {
     let first = random.between(1, (second - 1).min(15));
     let before = motion_at(random, 0, object, 15);
     vec![before, hmove_at(random, first), hmove_at(random, second)]
@@ -161,18 +140,13 @@ const VALUES: [Values; 4] = [(0x00, 0xFF), (0x00, 0xFF), (0x40, 0x7F), (0x80, 0x
 /// A run that keeps the premises of demand 3 for this object and for the others whose strobes it
 /// does not use; in most of them the drawing registers are those of the first state again at the
 /// end.
-fn moving_run(random: &mut Random, object: usize) -> RunCase {
+fn moving_run(random: &Random, object: usize) -> RunCase {
     let mut state = line_start_state(random);
     let equal = random.index(2);
     state.registers.grp_old[equal] = state.registers.grp_new[equal];
     let values = random.pick(&VALUES);
     let addresses = addresses_without_strobes(random, object);
-    let mut calls: Vec<Call> = (0..RUN_CALLS)
-        .map(|_| match random.one_in(8) {
-            true => refused_call(random),
-            false => Call::with(&moving_line(random, &addresses, values)),
-        })
-        .collect();
+    let mut calls = calls_of(random, 8, || moving_line(random, &addresses, values));
     if !random.one_in(5) {
         calls[RUN_CALLS - 1] = Call::with(&restoring_line(random, &state));
     }
@@ -180,74 +154,60 @@ fn moving_run(random: &mut Random, object: usize) -> RunCase {
 }
 
 /// The known addresses but HMOVE, this object's strobe and most of the other strobes.
-fn addresses_without_strobes(random: &mut Random, object: usize) -> Vec<u8> {
-    let mut addresses = Vec::new();
-    for (address, _, register) in KNOWN {
-        let kept = match register {
-            Register::Hmove => false,
-            Register::Strobe(other) => other != object && random.one_in(4),
-            _ => true,
-        };
-        if kept {
-            addresses.push(address);
-        }
-    }
-    addresses
+fn addresses_without_strobes(random: &Random, object: usize) -> Vec<u8> {
+    let mut known = KNOWN.to_vec();
+    known.retain(|(_, _, register)| match register {
+        Register::Hmove => false,
+        Register::Strobe(other) => *other != object && random.one_in(4),
+        _ => true,
+    });
+    known.iter().map(|known| known.0).collect()
 }
 
 /// A line with writes to these addresses and more to motion registers from clock 76 on; in two
 /// lines of three with an HMOVE that keeps the premises.
-fn moving_line(random: &mut Random, addresses: &[u8], values: Values) -> Vec<ListedWrite> {
-    let number = random.up_to(14);
-    let mut line = Vec::new();
-    for clock in rising_clocks(random, 0, number) {
+fn moving_line(random: &Random, addresses: &[u8], values: Values) -> Line {
+    let mut line = Line::new();
+    for clock in rising_clocks(random, 0, random.up_to(14)) {
         let address = random.pick(addresses);
         line.push(moving_write(random, clock, address, values));
     }
     for _ in 0..random.up_to(3) {
         let any = random.between(76, 227);
-        let clock = random.pick(&[76, any, any, any]);
-        put_motion(random, &mut line, clock, values);
+        put_motion(random, &mut line, random.pick(&[76, any, any, any]), values);
     }
     if !random.one_in(3) {
         let any = random.up_to(15);
-        let clock = random.pick(&[0, 15, any, any]);
-        put_allowed_hmove(random, &mut line, clock, values);
+        put_allowed_hmove(random, &mut line, random.pick(&[0, 15, any, any]), values);
     }
     line
 }
 
 /// A write at a clock to an address; to a motion register with one of these values.
-fn moving_write(random: &mut Random, clock: u8, address: u8, values: Values) -> ListedWrite {
-    match register_at(address) {
-        Some(Register::Motion(_)) => {
-            ListedWrite::new(clock, address, random.between(values.0, values.1))
-        }
-        _ => write_at(random, clock, address),
+fn moving_write(random: &Random, clock: u8, address: u8, values: Values) -> ListedWrite {
+    let mut write = write_at(random, clock, address);
+    if let Some(Register::Motion(_)) = register_at(address) {
+        write.write.value = random.between(values.0, values.1);
     }
+    write
 }
 
 /// Puts a write to a motion register, or at times to HMCLR, at a clock.
-fn put_motion(random: &mut Random, line: &mut Vec<ListedWrite>, clock: u8, values: Values) {
+fn put_motion(random: &Random, line: &mut Line, clock: u8, values: Values) {
     let register = match random.up_to(11) {
         0 => Register::Hmclr,
         n => Register::Motion(usize::from(n % 5)),
     };
-    put(
-        line,
-        moving_write(random, clock, address_of(register), values),
-    );
+    let write = moving_write(random, clock, address_of(register), values);
+    put(line, write);
 }
 
 /// Puts an HMOVE at a clock, 0 to 15, often with a motion value set before it, and leaves out
 /// the motion registers and HMCLR after it up to clock 75.
-fn put_allowed_hmove(random: &mut Random, line: &mut Vec<ListedWrite>, clock: u8, values: Values) {
-    if clock > 0 {
-        for _ in 0..random.up_to(3) {
-            let any = random.up_to(clock - 1);
-            let before = random.pick(&[clock - 1, any]);
-            put_motion(random, line, before, values);
-        }
+fn put_allowed_hmove(random: &Random, line: &mut Line, clock: u8, values: Values) {
+    for _ in 0..random.up_to(clock.min(3)) {
+        let before = random.pick(&[clock - 1, random.up_to(clock - 1)]);
+        put_motion(random, line, before, values);
     }
     put(line, hmove_at(random, clock));
     line.retain(|record| {
@@ -258,17 +218,15 @@ fn put_allowed_hmove(random: &mut Random, line: &mut Vec<ListedWrite>, clock: u8
 
 /// A line that makes the drawing registers those of a state of which one player has equal
 /// graphics, new and old; at times with an HMOVE.
-fn restoring_line(random: &mut Random, state: &State) -> Vec<ListedWrite> {
+fn restoring_line(random: &Random, state: &State) -> Line {
     let writes = restoring_writes(&state.registers);
     let clocks = rising_clocks(random, 16, writes.len() as u8);
-    let mut line: Vec<ListedWrite> = clocks
-        .into_iter()
-        .zip(writes)
-        .map(|(clock, (register, value))| ListedWrite::new(clock, address_of(register), value))
-        .collect();
+    let mut line = Line::new();
+    for (clock, (register, value)) in clocks.into_iter().zip(writes) {
+        line.push(ListedWrite::new(clock, address_of(register), value));
+    }
     if random.flag() {
-        let clock = random.up_to(15);
-        put(&mut line, hmove_at(random, clock));
+        put(&mut line, hmove_at(random, random.up_to(15)));
     }
     line
 }
@@ -307,52 +265,37 @@ mod tests {
     use crate::cases::case::play_chain;
     use crate::cases::random_states::without_motion;
 
-    /// How far a line and one without writes after it take an object whose motion value the line
-    /// sets first, and how far that value times the number of HMOVEs would.
-    fn moved_and_meant(state: &State, line: &[ListedWrite], object: usize) -> (i32, i32) {
-        let chain = play_chain(state, &[Call::with(line), Call::with(&[])], 0);
+    /// Whether a line and one without writes after it take an object, whose motion value the line
+    /// sets first, as far as that value times the number of HMOVEs.
+    fn moves_as_meant(random: &Random, line: &[ListedWrite], object: usize) -> bool {
+        let state = without_motion(&line_start_state(random));
+        let chain = play_chain(&state, &[Call::with(line), Call::with(&[])], 0);
         let position = |state: &State| i32::from(state.objects[object].position);
-        let moved = position(&chain[1].answer.state) - position(state);
+        let moved = position(&chain[1].answer.state) - position(&state);
         let hmoves = line.iter().filter(|record| record.write.address == 0x2A);
         let half_byte = i32::from(line[0].write.value >> 4);
         let signed = (half_byte + 8) % 16 - 8;
-        let meant = signed * hmoves.count() as i32;
-        (moved.rem_euclid(160), meant.rem_euclid(160))
+        (moved - signed * hmoves.count() as i32) % 160 == 0
     }
 
     #[test]
-    fn lines_that_fail_the_premises_take_the_object_elsewhere() {
-        let mut random = Random::new(53);
+    fn an_allowed_hmove_moves_as_meant_and_lines_that_fail_the_premises_do_not() {
+        let random = &Random::new(53);
         for object in 0..5 {
-            let state = without_motion(&line_start_state(&mut random));
+            for (clock, end_slot) in (16..256).map(|n| (n / 16, n as u8 % 16)) {
+                let motion = motion_at(random, 0, object, end_slot);
+                let line = [motion, hmove_at(random, clock as u8)];
+                assert!(moves_as_meant(random, &line, object), "{:?}", line);
+            }
             let mut lines = Vec::new();
-            for hmove in 8..=15 {
-                for clock in 16..=72 {
-                    lines.push(late_motion(&mut random, object, hmove, clock, false));
-                    lines.push(late_motion(&mut random, object, hmove, clock, true));
-                }
+            for (hmove, clock) in (8..=15).flat_map(|h| (16..=72).map(move |clock| (h, clock))) {
+                let late = |clear| late_motion(random, object, hmove, clock, clear);
+                lines.extend([late(false), late(true)]);
             }
-            lines.extend(LATE_HMOVES.map(|clock| late_hmove(&mut random, object, clock)));
-            lines.extend((2..=15).map(|second| two_hmoves(&mut random, object, second)));
+            lines.extend(LATE_HMOVES.map(|clock| late_hmove(random, object, clock)));
+            lines.extend((2..=15).map(|second| two_hmoves(random, object, second)));
             for line in lines {
-                let (moved, meant) = moved_and_meant(&state, &line, object);
-                assert_ne!(moved, meant, "{:?}", line);
-            }
-        }
-    }
-
-    #[test]
-    fn an_allowed_hmove_takes_the_object_where_its_motion_value_says() {
-        let mut random = Random::new(54);
-        for clock in 1..=15 {
-            for end_slot in 0..16 {
-                let state = without_motion(&line_start_state(&mut random));
-                let line = [
-                    motion_at(&mut random, 0, 3, end_slot),
-                    hmove_at(&mut random, clock),
-                ];
-                let (moved, meant) = moved_and_meant(&state, &line, 3);
-                assert_eq!(moved, meant);
+                assert!(!moves_as_meant(random, &line, object), "{:?}", line);
             }
         }
     }

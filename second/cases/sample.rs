@@ -13,7 +13,22 @@ use std::io::Write;
 const MOST_BYTES: usize = 60_000;
 
 /// For each kind, one case in so many is taken.
-const ONE_IN: [usize; 5] = [128, 20, 320, 750, 320];
+const ONE_IN: [usize; KINDS.len()] = [128, 20, 320, 750, 320];
+
+/// An outcome that is no refusal: acceptance, in a walk or run of all its clocks or calls.
+const ACCEPTED: u8 = 0;
+
+/// The outcome of a tape call at the tape's end; the others are the numbers of refusals.
+const ENDED: u8 = u8::MAX;
+
+/// For each kind, the outcomes that the sample must have.
+const REQUIRED: [&[u8]; KINDS.len()] = [
+    &[ACCEPTED, 1, 7],
+    &[ACCEPTED, 1, 7],
+    &[ACCEPTED, 1, 2, 3, 4, 5, 6, 7],
+    &[ACCEPTED, 3, 4, 5, 6, 7],
+    &[ACCEPTED, 1, 2, 3, 4, 5, 6, 7, 8, 9, ENDED],
+];
 
 /// Writes the records of the sample. Writes nothing and names what is wrong if an outcome does not
 /// occur or a size is exceeded.
@@ -23,8 +38,10 @@ pub fn write(out: &mut dyn Write) -> Result<(), Failure> {
     let mut report = Vec::new();
     chip_report::write(&mut &file[..], &mut report)?;
     let mut wrong = String::new();
-    for outcome in missing {
-        wrong += &format!("missing: {}\n", outcome);
+    for (kind, outcomes) in KINDS.iter().zip(missing) {
+        for outcome in outcomes {
+            wrong += &format!("missing: {} with outcome {}\n", kind, outcome);
+        }
     }
     for (name, bytes) in [("sample", file.len()), ("report", report.len())] {
         if bytes > MOST_BYTES {
@@ -37,18 +54,18 @@ pub fn write(out: &mut dyn Write) -> Result<(), Failure> {
     Ok(out.write_all(&file)?)
 }
 
-/// The sample of these cases, and the outcomes that do not occur in it.
-fn sample(all: &[Case]) -> (Vec<Case>, Vec<String>) {
-    let mut missing = required();
+/// The sample of these cases, and for each kind the outcomes that do not occur in it.
+fn sample(all: &[Case]) -> (Vec<Case>, [Vec<u8>; KINDS.len()]) {
+    let mut missing = REQUIRED.map(<[u8]>::to_vec);
     let mut numbers = [0; KINDS.len()];
     let mut cases = Vec::new();
     for case in all {
         let kind = case.kind();
         let mut taken = numbers[kind] % ONE_IN[kind] == 0;
-        if missing.iter().any(|each| each.starts_with(KINDS[kind])) {
+        if !missing[kind].is_empty() {
             let met = outcomes(case);
-            taken |= met.iter().any(|each| missing.contains(each));
-            missing.retain(|each| !met.contains(each));
+            taken |= met.iter().any(|outcome| missing[kind].contains(outcome));
+            missing[kind].retain(|outcome| !met.contains(outcome));
         }
         if taken {
             cases.push(case.clone());
@@ -58,33 +75,9 @@ fn sample(all: &[Case]) -> (Vec<Case>, Vec<String>) {
     (cases, missing)
 }
 
-/// Every outcome that the sample must have.
-fn required() -> Vec<String> {
-    let numbers: [&[u8]; 5] = [
-        &[0, 1, 7],
-        &[0, 1, 7],
-        &[0, 1, 2, 3, 4, 5, 6, 7],
-        &[0, 3, 4, 5, 6, 7],
-        &[0, 1, 2, 3, 4, 5, 6, 7, 8, 9],
-    ];
-    let mut outcomes = vec!["tape ended".to_string()];
-    for (kind, numbers) in KINDS.iter().zip(numbers) {
-        outcomes.extend(numbers.iter().map(|number| outcome(kind, *number)));
-    }
-    outcomes
-}
-
-/// The name of an outcome: 0 is acceptance, in a walk or run of all its clocks or calls.
-fn outcome(kind: &str, number: u8) -> String {
-    match number {
-        0 => format!("{} accepted", kind),
-        _ => format!("{} refused with {}", kind, number),
-    }
-}
-
 /// The outcomes of a case: of its answer, or, of a walk or run, of each clock or own call that is
 /// refused.
-fn outcomes(case: &Case) -> Vec<String> {
+fn outcomes(case: &Case) -> Vec<u8> {
     let mut numbers: Vec<u8> = match case {
         Case::Clock(single) => vec![single.play().number],
         Case::Walk(walk) => walk.play().iter().map(|answer| answer.number).collect(),
@@ -94,21 +87,13 @@ fn outcomes(case: &Case) -> Vec<String> {
             let own = &played[QUIET_CALLS..played.len() - QUIET_CALLS];
             own.iter().map(|played| played.answer.number).collect()
         }
-        Case::Tape(tape) => {
-            if read(&tape.tape, tape.place) == Ok(Reading::Ended) {
-                return vec!["tape ended".to_string()];
-            }
-            vec![tape.play(0).answer.number]
-        }
+        Case::Tape(tape) if read(&tape.tape, tape.place) == Ok(Reading::Ended) => vec![ENDED],
+        Case::Tape(tape) => vec![tape.play(0).answer.number],
     };
-    if numbers.iter().any(|&number| number != 0) {
-        numbers.retain(|&number| number != 0);
+    if numbers.iter().any(|&number| number != ACCEPTED) {
+        numbers.retain(|&number| number != ACCEPTED);
     }
-    numbers.sort_unstable();
-    numbers.dedup();
-    let kind = KINDS[case.kind()];
-    let names = numbers.iter().map(|&number| outcome(kind, number));
-    names.collect()
+    numbers
 }
 
 #[cfg(test)]
@@ -121,14 +106,8 @@ mod tests {
         let mut file = Vec::new();
         assert_eq!(write(&mut file), Ok(()));
         assert!((40_000..=MOST_BYTES).contains(&file.len()));
-        let met: Vec<String> = cases_of(&file)
-            .flat_map(|case| outcomes(&case.unwrap()))
-            .collect();
-        assert!(required().iter().all(|outcome| met.contains(outcome)));
-    }
-
-    #[test]
-    fn outcomes_that_do_not_occur_are_missing() {
-        assert_eq!(sample(&[]), (vec![], required()));
+        let cases: Vec<Case> = cases_of(&file).map(Result::unwrap).collect();
+        assert!(sample(&cases).1.iter().all(Vec::is_empty));
+        assert_eq!(sample(&[]), (vec![], REQUIRED.map(<[u8]>::to_vec)));
     }
 }

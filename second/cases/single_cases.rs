@@ -1,13 +1,14 @@
-//! The single clocks of the case file, group by group; states drawn towards the edges, and some
-//! drawn evenly, fill their number up.
+//! The single clocks of the case file, group by group; good states, with a write or none, fill
+//! their number up.
 
 use crate::cases::build_lists::address_of;
 use crate::cases::case::Single;
 use crate::cases::chip_cases::Group;
+use crate::cases::drawing_writes::{is_for_drawing, write_changed_lit};
 use crate::cases::random::Random;
-use crate::cases::random_lists::{known_write, unknown_addresses, write_to};
+use crate::cases::random_lists::{known_address, unknown_addresses, write_to};
 use crate::cases::random_states::{
-    bad_state, edge_state, even_state, faulty_states, set_playfield,
+    bad_state, edge_state, faulty_states, good_state, set_playfield,
 };
 use crate::model::clock::{run, RegisterWrite};
 use crate::model::latches::PAIRS;
@@ -29,14 +30,12 @@ pub const GROUPS: [Group<Single>; 9] = [
     pairs,
 ];
 
-/// A state drawn towards the edges, one in eight evenly.
-pub fn other(random: &mut Random) -> Single {
-    let state = match random.one_in(8) {
-        true => even_state(random),
-        false => edge_state(random),
-    };
-    let write = write_or_none(random);
-    Single { state, write }
+/// A single clock with a good state, and a write or none.
+pub fn other(random: &Random) -> Single {
+    Single {
+        state: good_state(random),
+        write: write_or_none(random),
+    }
 }
 
 /// Adds a single clock.
@@ -45,17 +44,17 @@ fn push(singles: &mut Vec<Single>, state: State, write: Option<RegisterWrite>) {
 }
 
 /// No write, one time in four; otherwise a write of any value to any known register.
-fn write_or_none(random: &mut Random) -> Option<RegisterWrite> {
-    (!random.one_in(4)).then(|| known_write(random))
+fn write_or_none(random: &Random) -> Option<RegisterWrite> {
+    (!random.one_in(4)).then(|| write_to(random, known_address(random)))
 }
 
 /// A write of any value to a register.
-fn write_of(random: &mut Random, register: Register) -> Option<RegisterWrite> {
+fn write_of(random: &Random, register: Register) -> Option<RegisterWrite> {
     Some(write_to(random, address_of(register)))
 }
 
 /// A state drawn towards the edges, but on a visible clock.
-fn visible_state(random: &mut Random) -> State {
+fn visible_state(random: &Random) -> State {
     State {
         h: random.between(76, 227),
         ..edge_state(random)
@@ -69,38 +68,37 @@ fn set_age(state: &mut State, object: usize, age: u8) {
 }
 
 /// Every known register eight times, every unknown address with a good state and with a bad one.
-fn addresses(random: &mut Random, singles: &mut Vec<Single>) {
+fn addresses(random: &Random, singles: &mut Vec<Single>) {
     for address in 0..=255 {
-        let mut states = vec![edge_state(random)];
-        match register_at(address) {
-            Some(_) => states.extend((0..7).map(|_| edge_state(random))),
-            None => states.push(bad_state(random)),
-        }
+        let states: Vec<fn(&Random) -> State> = match register_at(address) {
+            Some(_) => vec![edge_state; 8],
+            None => vec![edge_state, bad_state],
+        };
         for state in states {
-            push(singles, state, Some(write_to(random, address)));
+            push(singles, state(random), Some(write_to(random, address)));
         }
     }
 }
 
 /// Every drawing register eight times, written on visible clocks on which all objects are at lit
 /// ages and the write changes what is lit.
-fn drawing_registers(random: &mut Random, singles: &mut Vec<Single>) {
+fn drawing_registers(random: &Random, singles: &mut Vec<Single>) {
     for (_, _, register) in KNOWN.repeat(8) {
-        if register.is_for_drawing() {
+        if is_for_drawing(register) {
             let mut draws = (0..100).map(|_| Single {
                 state: lit_state(random),
                 write: write_of(random, register),
             });
             singles.extend(draws.find(|single| {
                 let done = run(&single.state, single.write);
-                done.map_or(false, |done| done.write_changed_lit(&single.state))
+                done.map_or(false, |done| write_changed_lit(&single.state, &done))
             }));
         }
     }
 }
 
 /// A visible clock that finds all objects at lit ages, whatever graphics and enables are.
-fn lit_state(random: &mut Random) -> State {
+fn lit_state(random: &Random) -> State {
     let mut state = visible_state(random);
     for object in 0..5 {
         let (first, last) = lit_ages(&state, object);
@@ -111,19 +109,18 @@ fn lit_state(random: &mut Random) -> State {
 
 /// Each single fault of a state and states with one fault or more: without a write, with a known
 /// register and with an unknown one.
-fn bad_states(random: &mut Random, singles: &mut Vec<Single>) {
-    let mut states = faulty_states(random, edge_state);
-    states.extend((0..20).map(|_| bad_state(random)));
-    for state in states {
-        let unknown = random.pick(&unknown_addresses());
+fn bad_states(random: &Random, singles: &mut Vec<Single>) {
+    let several = (0..20).map(|_| bad_state(random));
+    for state in faulty_states(random, edge_state).into_iter().chain(several) {
         push(singles, state, None);
-        push(singles, state, Some(known_write(random)));
-        push(singles, state, Some(write_to(random, unknown)));
+        for address in [known_address(random), random.pick(&unknown_addresses())] {
+            push(singles, state, Some(write_to(random, address)));
+        }
     }
 }
 
 /// HMOVE at the edges of its clocks, with motion under way and without.
-fn hmoves(random: &mut Random, singles: &mut Vec<Single>) {
+fn hmoves(random: &Random, singles: &mut Vec<Single>) {
     for h in [0, 1, 4, 64, 66, 67, 68, 72, 75, 76, 100, 164, 227].repeat(3) {
         for late in [false, true] {
             let edge = edge_state(random);
@@ -135,7 +132,7 @@ fn hmoves(random: &mut Random, singles: &mut Vec<Single>) {
 
 /// Comparing clocks, for each object and each half byte: one at which the comparison is equal,
 /// one at any slot, two at which the written motion value decides, and two with HMCLR.
-fn comparisons(random: &mut Random, singles: &mut Vec<Single>) {
+fn comparisons(random: &Random, singles: &mut Vec<Single>) {
     for object in 0..5 {
         for half_byte in 0..16 {
             let equal = comparing_state(random, object, half_byte);
@@ -162,7 +159,7 @@ fn comparisons(random: &mut Random, singles: &mut Vec<Single>) {
 
 /// A comparing clock at which this object's comparison is equal with this half byte; half of
 /// them below clock 76.
-fn comparing_state(random: &mut Random, object: usize, half_byte: u8) -> State {
+fn comparing_state(random: &Random, object: usize, half_byte: u8) -> State {
     let mut state = edge_state(random);
     let fours = if random.flag() { 18 } else { 56 };
     state.h = 4 * random.up_to(fours);
@@ -177,7 +174,7 @@ fn comparing_state(random: &mut Random, object: usize, half_byte: u8) -> State {
 
 /// Each position from which a pulse reaches 0, 16, 32 or 64, for each object with each copies: with
 /// a pulse, with a strobe too, and, for players and missiles, with the copies written that clock.
-fn starts(random: &mut Random, singles: &mut Vec<Single>) {
+fn starts(random: &Random, singles: &mut Vec<Single>) {
     for position in [159, 15, 31, 63] {
         for object in 0..5 {
             for copies in 0..8 {
@@ -199,7 +196,7 @@ fn starts(random: &mut Random, singles: &mut Vec<Single>) {
 
 /// A state in which an object at this position is pulsed on the next clock: on a visible clock,
 /// or by an extra pulse in the blank.
-fn pulsed_state(random: &mut Random, object: usize, position: u8) -> State {
+fn pulsed_state(random: &Random, object: usize, position: u8) -> State {
     let mut state = visible_state(random);
     if random.flag() {
         let half_byte = random.up_to(15);
@@ -213,7 +210,7 @@ fn pulsed_state(random: &mut Random, object: usize, position: u8) -> State {
 
 /// Each object at each size or width, shown and not, on visible clocks that bring it to the edges
 /// of its lit ages, just outside them, and between.
-fn lit_edges(random: &mut Random, singles: &mut Vec<Single>) {
+fn lit_edges(random: &Random, singles: &mut Vec<Single>) {
     for object in [P0, P1, P0, P1, 2, 3, BL] {
         for code in 0..4 {
             for (edge, shown) in (0..10).map(|n| (n / 2, n % 2 == 0)) {
@@ -231,7 +228,7 @@ fn lit_edges(random: &mut Random, singles: &mut Vec<Single>) {
 
 /// Gives an object a size or a width, and shows it or not: a missile or the ball by its enable, a
 /// player by the outer bits of its graphic. The old one of graphic or enable differs from the new.
-fn set_shape(random: &mut Random, state: &mut State, object: usize, code: u8, shown: bool) {
+fn set_shape(random: &Random, state: &mut State, object: usize, code: u8, shown: bool) {
     let registers = &mut state.registers;
     let by_old = random.flag();
     let old_is_shown = by_old == shown;
@@ -258,7 +255,7 @@ fn set_shape(random: &mut Random, state: &mut State, object: usize, code: u8, sh
 }
 
 /// Each of the 40 playfield bits, repeated and reflected: it alone set, and it alone clear.
-fn playfield(random: &mut Random, singles: &mut Vec<Single>) {
+fn playfield(random: &Random, singles: &mut Vec<Single>) {
     for bit in 0..40 {
         for (reflected, rest) in [(0, 0x00), (0, 0xFF), (1, 0x00), (1, 0xFF)] {
             let mut state = edge_state(random);
@@ -283,7 +280,7 @@ fn playfield(random: &mut Random, singles: &mut Vec<Single>) {
 
 /// Each pair lit together: in an unblanked column with its latch clear, with CXCLR, and in a
 /// blank column with its latch clear.
-fn pairs(random: &mut Random, singles: &mut Vec<Single>) {
+fn pairs(random: &Random, singles: &mut Vec<Single>) {
     for (latch, &(first, second)) in PAIRS.iter().enumerate() {
         for _ in 0..5 {
             let mut state = visible_state(random);
@@ -300,7 +297,7 @@ fn pairs(random: &mut Random, singles: &mut Vec<Single>) {
 }
 
 /// Makes an object or the playfield lit on the next clock, whether it is pulsed or not.
-fn make_lit(random: &mut Random, state: &mut State, object: usize) {
+fn make_lit(random: &Random, state: &mut State, object: usize) {
     if object == PF {
         return set_playfield(&mut state.registers, 255);
     }

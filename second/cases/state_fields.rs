@@ -4,12 +4,12 @@
 use crate::cases::random::Random;
 use crate::model::object::{BL, M0, M1, P0, P1};
 use crate::model::state::{State, NO_MOTION};
-use Kind::{Flag, Size, UpTo};
+use Kind::{Flag, Max, Size};
 
-/// What a field is, and where a state holds it: a number from 0 to a last one, a held size, which
-/// is 1, 2 or 4, or a flag.
+/// What a field is, and where a state holds it: a number from 0 to a greatest one, a held size,
+/// which is 1, 2 or 4, or a flag.
 enum Kind {
-    UpTo(u8, fn(&mut State) -> &mut u8),
+    Max(u8, fn(&mut State) -> &mut u8),
     Size(fn(&mut State) -> &mut u8),
     Flag(fn(&mut State) -> &mut bool),
 }
@@ -30,45 +30,30 @@ pub const LENGTH: usize = 61;
 
 /// The fields, each at the index of its byte.
 pub static FIELDS: [Field; LENGTH] = [
-    field("h", UpTo(227, |s| &mut s.h)),
-    field("position of P0", UpTo(159, |s| &mut s.objects[P0].position)),
-    field("age of P0", UpTo(64, |s| &mut s.objects[P0].age)),
-    field(
-        "motion value of P0",
-        UpTo(15, |s| &mut s.objects[P0].motion),
-    ),
+    field("h", Max(227, |s| &mut s.h)),
+    field("position of P0", Max(159, |s| &mut s.objects[P0].position)),
+    field("age of P0", Max(64, |s| &mut s.objects[P0].age)),
+    field("motion value of P0", Max(15, |s| &mut s.objects[P0].motion)),
     field("live flag of P0", Flag(|s| &mut s.objects[P0].live)),
-    field("position of P1", UpTo(159, |s| &mut s.objects[P1].position)),
-    field("age of P1", UpTo(64, |s| &mut s.objects[P1].age)),
-    field(
-        "motion value of P1",
-        UpTo(15, |s| &mut s.objects[P1].motion),
-    ),
+    field("position of P1", Max(159, |s| &mut s.objects[P1].position)),
+    field("age of P1", Max(64, |s| &mut s.objects[P1].age)),
+    field("motion value of P1", Max(15, |s| &mut s.objects[P1].motion)),
     field("live flag of P1", Flag(|s| &mut s.objects[P1].live)),
-    field("position of M0", UpTo(159, |s| &mut s.objects[M0].position)),
-    field("age of M0", UpTo(64, |s| &mut s.objects[M0].age)),
-    field(
-        "motion value of M0",
-        UpTo(15, |s| &mut s.objects[M0].motion),
-    ),
+    field("position of M0", Max(159, |s| &mut s.objects[M0].position)),
+    field("age of M0", Max(64, |s| &mut s.objects[M0].age)),
+    field("motion value of M0", Max(15, |s| &mut s.objects[M0].motion)),
     field("live flag of M0", Flag(|s| &mut s.objects[M0].live)),
-    field("position of M1", UpTo(159, |s| &mut s.objects[M1].position)),
-    field("age of M1", UpTo(64, |s| &mut s.objects[M1].age)),
-    field(
-        "motion value of M1",
-        UpTo(15, |s| &mut s.objects[M1].motion),
-    ),
+    field("position of M1", Max(159, |s| &mut s.objects[M1].position)),
+    field("age of M1", Max(64, |s| &mut s.objects[M1].age)),
+    field("motion value of M1", Max(15, |s| &mut s.objects[M1].motion)),
     field("live flag of M1", Flag(|s| &mut s.objects[M1].live)),
-    field("position of BL", UpTo(159, |s| &mut s.objects[BL].position)),
-    field("age of BL", UpTo(64, |s| &mut s.objects[BL].age)),
-    field(
-        "motion value of BL",
-        UpTo(15, |s| &mut s.objects[BL].motion),
-    ),
+    field("position of BL", Max(159, |s| &mut s.objects[BL].position)),
+    field("age of BL", Max(64, |s| &mut s.objects[BL].age)),
+    field("motion value of BL", Max(15, |s| &mut s.objects[BL].motion)),
     field("live flag of BL", Flag(|s| &mut s.objects[BL].live)),
     field("held size of P0", Size(|s| &mut s.sizes[P0])),
     field("held size of P1", Size(|s| &mut s.sizes[P1])),
-    field("slot", UpTo(NO_MOTION, |s| &mut s.slot)),
+    field("slot", Max(NO_MOTION, |s| &mut s.slot)),
     field("late flag", Flag(|s| &mut s.late)),
     field("latch M0-P1", Flag(|s| &mut s.latches[0])),
     field("latch M0-P0", Flag(|s| &mut s.latches[1])),
@@ -85,26 +70,26 @@ pub static FIELDS: [Field; LENGTH] = [
     field("latch BL-PF", Flag(|s| &mut s.latches[12])),
     field("latch P0-P1", Flag(|s| &mut s.latches[13])),
     field("latch M0-M1", Flag(|s| &mut s.latches[14])),
-    field("copies of NUSIZ0", UpTo(7, |s| &mut s.registers.copies[0])),
+    field("copies of NUSIZ0", Max(7, |s| &mut s.registers.copies[0])),
     field(
         "width code of NUSIZ0",
-        UpTo(3, |s| &mut s.registers.width_codes[0]),
+        Max(3, |s| &mut s.registers.width_codes[0]),
     ),
-    field("copies of NUSIZ1", UpTo(7, |s| &mut s.registers.copies[1])),
+    field("copies of NUSIZ1", Max(7, |s| &mut s.registers.copies[1])),
     field(
         "width code of NUSIZ1",
-        UpTo(3, |s| &mut s.registers.width_codes[1]),
+        Max(3, |s| &mut s.registers.width_codes[1]),
     ),
-    field("CTRLPF", UpTo(255, |s| &mut s.registers.ctrlpf)),
+    field("CTRLPF", Max(255, |s| &mut s.registers.ctrlpf)),
     field("REFP0", Flag(|s| &mut s.registers.refp[0])),
     field("REFP1", Flag(|s| &mut s.registers.refp[1])),
-    field("PF0", UpTo(15, |s| &mut s.registers.pf0)),
-    field("PF1", UpTo(255, |s| &mut s.registers.pf1)),
-    field("PF2", UpTo(255, |s| &mut s.registers.pf2)),
-    field("GRP0 new", UpTo(255, |s| &mut s.registers.grp_new[0])),
-    field("GRP0 old", UpTo(255, |s| &mut s.registers.grp_old[0])),
-    field("GRP1 new", UpTo(255, |s| &mut s.registers.grp_new[1])),
-    field("GRP1 old", UpTo(255, |s| &mut s.registers.grp_old[1])),
+    field("PF0", Max(15, |s| &mut s.registers.pf0)),
+    field("PF1", Max(255, |s| &mut s.registers.pf1)),
+    field("PF2", Max(255, |s| &mut s.registers.pf2)),
+    field("GRP0 new", Max(255, |s| &mut s.registers.grp_new[0])),
+    field("GRP0 old", Max(255, |s| &mut s.registers.grp_old[0])),
+    field("GRP1 new", Max(255, |s| &mut s.registers.grp_new[1])),
+    field("GRP1 old", Max(255, |s| &mut s.registers.grp_old[1])),
     field("ENAM0", Flag(|s| &mut s.registers.enam[0])),
     field("ENAM1", Flag(|s| &mut s.registers.enam[1])),
     field("ENABL new", Flag(|s| &mut s.registers.enabl_new)),
@@ -118,7 +103,7 @@ impl Field {
     /// Whether a byte is in the field's range.
     pub fn has(&self, byte: u8) -> bool {
         match self.kind {
-            UpTo(last, _) => byte <= last,
+            Max(last, _) => byte <= last,
             Size(_) => [1, 2, 4].contains(&byte),
             Flag(_) => byte <= 1,
         }
@@ -128,16 +113,16 @@ impl Field {
     /// for a field of which every byte is in range.
     pub fn beyond(&self) -> Vec<u8> {
         match self.kind {
-            UpTo(255, _) | Flag(_) => vec![],
-            UpTo(last, _) => vec![last + 1, 255],
+            Max(255, _) | Flag(_) => vec![],
+            Max(last, _) => vec![last + 1, 255],
             Size(_) => vec![0, 3, 5, 255],
         }
     }
 
     /// A byte drawn evenly from the range.
-    pub fn draw(&self, random: &mut Random) -> u8 {
+    pub fn draw(&self, random: &Random) -> u8 {
         match self.kind {
-            UpTo(last, _) => random.up_to(last),
+            Max(last, _) => random.up_to(last),
             Size(_) => random.pick(&[1, 2, 4]),
             Flag(_) => random.up_to(1),
         }
@@ -156,7 +141,7 @@ pub fn to_bytes(state: &State) -> [u8; LENGTH] {
     let mut bytes = [0; LENGTH];
     for (byte, field) in bytes.iter_mut().zip(&FIELDS) {
         *byte = match field.kind {
-            UpTo(_, held) | Size(held) => *held(&mut state),
+            Max(_, held) | Size(held) => *held(&mut state),
             Flag(held) => u8::from(*held(&mut state)),
         };
     }
@@ -168,7 +153,7 @@ pub fn from_bytes(bytes: &[u8; LENGTH]) -> State {
     let mut state = State::START;
     for (&byte, field) in bytes.iter().zip(&FIELDS) {
         match field.kind {
-            UpTo(_, held) | Size(held) => *held(&mut state) = byte,
+            Max(_, held) | Size(held) => *held(&mut state) = byte,
             Flag(held) => *held(&mut state) = byte != 0,
         }
     }
@@ -197,35 +182,26 @@ mod tests {
     use super::*;
 
     #[test]
-    fn the_start_state_has_ages_sizes_and_slot_and_zero_elsewhere() {
+    fn each_byte_is_one_field_and_the_check_accepts_the_states_without_faults() {
+        let start = to_bytes(&State::START);
         let mut expected = [0; LENGTH];
-        for (place, byte) in [(2, 64), (6, 64), (10, 64), (14, 64), (18, 64)] {
-            expected[place] = byte;
-        }
         expected[21..24].copy_from_slice(&[1, 1, 16]);
-        assert_eq!(to_bytes(&State::START), expected);
-    }
-
-    #[test]
-    fn each_byte_is_one_field_there_and_back() {
-        for (n, field) in FIELDS.iter().enumerate() {
-            let changed = to_bytes(&State::START)[n] ^ 1;
-            let mut bytes = to_bytes(&State::START);
-            bytes[n] = changed;
-            assert_ne!(from_bytes(&bytes), State::START, "{}", field.name);
-            assert_eq!(to_bytes(&from_bytes(&bytes)), bytes, "{}", field.name);
+        for age in [2, 6, 10, 14, 18] {
+            expected[age] = 64;
         }
-    }
-
-    #[test]
-    fn a_state_without_faults_is_one_that_the_check_accepts() {
+        assert_eq!(start, expected);
         for (n, field) in FIELDS.iter().enumerate() {
             for byte in 0..=255 {
-                let mut bytes = to_bytes(&State::START);
+                let mut bytes = start;
                 bytes[n] = byte;
-                bytes = to_bytes(&from_bytes(&bytes));
-                let accepted = from_bytes(&bytes).check().is_ok();
-                assert_eq!(faults(&bytes).is_empty(), accepted, "{}", field.name);
+                let state = from_bytes(&bytes);
+                bytes[n] = if let Flag(_) = field.kind {
+                    byte.min(1)
+                } else {
+                    byte
+                };
+                assert_eq!(to_bytes(&state), bytes, "{}", field.name);
+                assert_eq!(faults(&bytes).is_empty(), state.check().is_ok());
                 assert_eq!(faults(&bytes) == [Fault::Field(n)], !field.has(bytes[n]));
             }
         }

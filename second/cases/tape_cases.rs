@@ -9,7 +9,7 @@ use crate::cases::chip_cases::Group;
 use crate::cases::damage::DAMAGES;
 use crate::cases::line_cases::{self, random_case, short_case};
 use crate::cases::random::Random;
-use crate::cases::random_lists::{known_write_at, list_of_length, little_lists};
+use crate::cases::random_lists::{known_write_at, list_of_length, little_lists, short_list};
 use crate::cases::random_states::line_start_state;
 use crate::cases::spoil::{places_past_the_end, spoil, spoil_reading, ReadingFault, BAD_LENGTHS};
 use crate::model::state::State;
@@ -29,9 +29,8 @@ pub const GROUPS: [Group<TapeCase>; 8] = [
 
 /// A call at a line of a random tape, at times at any place of it; at times the tape is damaged, at
 /// times state, buffer or line have a fault.
-pub fn other(random: &mut Random) -> TapeCase {
-    let line = random_case(random, 8);
-    let mut case = on_tape(random, &line);
+pub fn other(random: &Random) -> TapeCase {
+    let mut case = on_tape(random, &random_case(random, 8));
     if random.one_in(5) {
         let (_, damage) = random.pick(&DAMAGES);
         damage(random, &mut case.tape);
@@ -47,63 +46,53 @@ pub fn other(random: &mut Random) -> TapeCase {
 
 /// The call that plays a line call's list: its line stands between up to two lines before it and
 /// up to two after.
-fn on_tape(random: &mut Random, line: &LineCase) -> TapeCase {
-    let mut tape = tape_of(&little_lists(random, 2));
-    let place = tape.len() as u64;
-    add_line(&mut tape, &line.call.list);
+fn on_tape(random: &Random, line: &LineCase) -> TapeCase {
+    let mut case = ending_in(random, &line_bytes(&line.call.list));
     for list in little_lists(random, 2) {
-        add_line(&mut tape, &list);
+        add_line(&mut case.tape, &list);
     }
-    TapeCase {
-        state: line.state,
-        length: line.call.length,
-        place,
-        tape,
-    }
+    case.state = line.state;
+    case.length = line.call.length;
+    case
 }
 
 /// A call without faults: a short line between others.
-fn good_case(random: &mut Random) -> TapeCase {
-    let line = short_case(random);
-    on_tape(random, &line)
+fn good_case(random: &Random) -> TapeCase {
+    on_tape(random, &short_case(random))
 }
 
 /// A call at the place where these bytes end a tape, after up to two lines.
-fn ending_in(random: &mut Random, bytes: &[u8]) -> TapeCase {
+fn ending_in(random: &Random, bytes: &[u8]) -> TapeCase {
     let mut tape = tape_of(&little_lists(random, 2));
     let place = tape.len() as u64;
     tape.extend(bytes);
     TapeCase::new(line_start_state(random), tape, place)
 }
 
-/// The line of so many writes as it stands on a tape, its length before it.
-fn line_bytes(random: &mut Random, number: u8) -> Vec<u8> {
+/// A line as it stands on a tape, its length before it.
+fn line_bytes(list: &[u8]) -> Vec<u8> {
     let mut bytes = Vec::new();
-    add_line(&mut bytes, &list_of(&list_of_length(random, number)));
+    add_line(&mut bytes, list);
     bytes
 }
 
 /// The groups of line calls, each line between others of a tape; those with a refused length of
 /// the list have all of the line's bytes there.
-fn lines_on_tapes(random: &mut Random, cases: &mut Vec<TapeCase>) {
+fn lines_on_tapes(random: &Random, cases: &mut Vec<TapeCase>) {
     let mut lines = Vec::new();
     for group in line_cases::GROUPS {
         group(random, &mut lines);
     }
-    for line in lines {
-        cases.push(on_tape(random, &line));
-    }
+    cases.extend(lines.iter().map(|line| on_tape(random, line)));
 }
 
 /// The bench checks, each line from the state that the line before handed back, and their ends;
-/// every place of the printed tape and some past its end; tapes of three lines of 684 bytes, at
-/// each line and at the end.
-fn bench_tapes(random: &mut Random, cases: &mut Vec<TapeCase>) {
+/// tapes of three lines of 684 bytes likewise; every place of the printed tape and some past its
+/// end.
+fn bench_tapes(random: &Random, cases: &mut Vec<TapeCase>) {
     let mut tapes: Vec<Vec<u8>> = checks().iter().map(|check| check.tape()).collect();
-    for _ in 0..3 {
-        let lines: Vec<Vec<u8>> = (0..3).map(|_| line_bytes(random, 228)).collect();
-        tapes.push([vec![VERSION], lines.concat()].concat());
-    }
+    let full = || list_of(&list_of_length(random, 228));
+    tapes.extend((0..3).map(|_| tape_of(&[full(), full(), full()])));
     for tape in tapes {
         let mut state = State::START;
         for place in line_places(&tape).into_iter().chain([tape.len() as u64]) {
@@ -119,7 +108,7 @@ fn bench_tapes(random: &mut Random, cases: &mut Vec<TapeCase>) {
 
 /// Empty tapes; and each version that is not 1, the most likely ones more often, at lines, at the
 /// end and outside.
-fn versions(random: &mut Random, cases: &mut Vec<TapeCase>) {
+fn versions(random: &Random, cases: &mut Vec<TapeCase>) {
     for place in [0, 1, 2, 1 << 32, 1 << 63, u64::MAX].repeat(2) {
         cases.push(TapeCase::new(line_start_state(random), vec![], place));
     }
@@ -134,7 +123,7 @@ fn versions(random: &mut Random, cases: &mut Vec<TapeCase>) {
 }
 
 /// Place 0 and places past the end, some of them with a line's place in their lower bits.
-fn places_outside(random: &mut Random, cases: &mut Vec<TapeCase>) {
+fn places_outside(random: &Random, cases: &mut Vec<TapeCase>) {
     for _ in 0..6 {
         let case = good_case(random);
         let mut places = places_past_the_end(&case.tape, case.place);
@@ -148,7 +137,7 @@ fn places_outside(random: &mut Random, cases: &mut Vec<TapeCase>) {
 
 /// The ends of tapes, of those without lines too; with a bad state, h not 0 or a wrong buffer as
 /// well as without.
-fn ends(random: &mut Random, cases: &mut Vec<TapeCase>) {
+fn ends(random: &Random, cases: &mut Vec<TapeCase>) {
     for fault in [0, 1, 2, 3].repeat(16) {
         let mut line = short_case(random);
         if fault != 0 {
@@ -165,21 +154,20 @@ fn ends(random: &mut Random, cases: &mut Vec<TapeCase>) {
 
 /// Tapes that end within a line: with a lone length byte; with a refused length and fewer bytes
 /// than that, or none; and in a short line or one of 684 bytes cut by one byte and more, or by all.
-fn cut_lines(random: &mut Random, cases: &mut Vec<TapeCase>) {
+fn cut_lines(random: &Random, cases: &mut Vec<TapeCase>) {
+    let mut add = |bytes: &[u8]| cases.push(ending_in(random, bytes));
     for byte in [0, 1, 2, 3, 255].repeat(6) {
-        cases.push(ending_in(random, &[byte]));
+        add(&[byte]);
     }
     for length in BAD_LENGTHS.repeat(3).into_iter().chain([687; 3]) {
-        let any = random.index(30);
-        let there = random.pick(&[0, any]).min(usize::from(length) - 1);
-        let bytes = [length.to_be_bytes().to_vec(), vec![0; there]].concat();
-        cases.push(ending_in(random, &bytes));
+        let there = random.pick(&[0, random.index(30)]);
+        let there = there.min(usize::from(length) - 1);
+        add(&[&length.to_be_bytes()[..], &vec![0; there]].concat());
     }
     for cut_by in [1, 1, 2, 3, 4, usize::MAX].repeat(10) {
-        for number in [random.between(3, 10), 228] {
-            let mut bytes = line_bytes(random, number);
-            bytes.truncate(bytes.len().saturating_sub(cut_by).max(2));
-            cases.push(ending_in(random, &bytes));
+        for list in [short_list(random), list_of_length(random, 228)] {
+            let bytes = line_bytes(&list_of(&list));
+            add(&bytes[..bytes.len().saturating_sub(cut_by).max(2)]);
         }
     }
 }
@@ -187,13 +175,12 @@ fn cut_lines(random: &mut Random, cases: &mut Vec<TapeCase>) {
 /// Any places of tapes that are no borders of lines; and places within a record at which the bytes
 /// are a line: the value 0 of one record and the clock 3 or 6 of the next are its length, a clock
 /// 60 that of a cut one, and some of the lines have a bad record.
-fn inner_places(random: &mut Random, cases: &mut Vec<TapeCase>) {
+fn inner_places(random: &Random, cases: &mut Vec<TapeCase>) {
     for _ in 0..120 {
         let mut case = good_case(random);
         let borders = line_places(&case.tape);
-        let inner: Vec<u64> = (1..case.tape.len() as u64)
-            .filter(|place| !borders.contains(place))
-            .collect();
+        let mut inner: Vec<u64> = (1..case.tape.len() as u64).collect();
+        inner.retain(|place| !borders.contains(place));
         case.place = random.pick(&inner);
         cases.push(case);
     }
@@ -209,9 +196,7 @@ fn inner_places(random: &mut Random, cases: &mut Vec<TapeCase>) {
             line.extend(record);
         }
         line.extend([0x0E, 0]);
-        let mut bytes = Vec::new();
-        add_line(&mut bytes, &line);
-        let mut case = ending_in(random, &bytes);
+        let mut case = ending_in(random, &line_bytes(&line));
         case.place += 4;
         cases.push(case);
     }
@@ -220,10 +205,11 @@ fn inner_places(random: &mut Random, cases: &mut Vec<TapeCase>) {
 /// Each fault of reading together with each fault of the line call that it leaves: of state, h and
 /// buffer, and, where the line's bytes are there, of its records; and behind a version that is not
 /// 1 each other fault of a tape that is not empty.
-fn two_faults(random: &mut Random, cases: &mut Vec<TapeCase>) {
+fn two_faults(random: &Random, cases: &mut Vec<TapeCase>) {
+    use ReadingFault::{Cut, Empty, Length, Version};
     for fault in ReadingFault::ALL.repeat(6) {
         let numbers: &[u8] = match fault {
-            ReadingFault::Version | ReadingFault::Length | ReadingFault::Cut => &[1, 2, 3, 5, 6, 7],
+            Version | Length | Cut => &[1, 2, 3, 5, 6, 7],
             _ => &[1, 2, 3],
         };
         for &number in numbers {
@@ -233,10 +219,10 @@ fn two_faults(random: &mut Random, cases: &mut Vec<TapeCase>) {
             spoil_reading(random, &mut case, fault);
             cases.push(case);
         }
-        if !matches!(fault, ReadingFault::Empty | ReadingFault::Version) {
+        if !matches!(fault, Empty | Version) {
             let mut case = good_case(random);
             spoil_reading(random, &mut case, fault);
-            spoil_reading(random, &mut case, ReadingFault::Version);
+            spoil_reading(random, &mut case, Version);
             cases.push(case);
         }
     }

@@ -13,12 +13,9 @@ use crate::cases::case::{Case, Walk};
 use seen::{Kind, Seen};
 use table::Table;
 
-/// The kinds that a single clock or a walk can be seen as.
-const CLOCKS: [Kind; 2] = [Kind::Clock, Kind::RefusedClock];
-
 /// The whole table.
 fn table() -> Table {
-    let mut table = Table::new();
+    let mut table = Table::default();
     for add in [refusals::add, steps::add, lines::add, runs::add, tapes::add] {
         add(&mut table);
     }
@@ -36,18 +33,16 @@ pub fn missing(cases: &[Case]) -> String {
     missing_of(table(), cases)
 }
 
-/// The same for any table. A case is run only if rows are left that can be asked of it.
+/// The same for any table. A line, run or tape is played only if rows are left to ask of it.
 fn missing_of(mut table: Table, cases: &[Case]) -> String {
     for (number, case) in cases.iter().enumerate() {
         match case {
-            Case::Clock(single) if table.asks(&CLOCKS) => {
-                table.see(&Seen::clock(&single.state, single.write));
-            }
-            Case::Walk(walk) if table.asks(&CLOCKS) => see_walk(&mut table, walk),
-            Case::Line(line) if table.asks(&[Kind::Line]) => table.see(&Seen::line(number, line)),
-            Case::Run(run) if table.asks(&[Kind::Run]) => table.see(&Seen::run(number, run)),
-            Case::Tape(tape) if table.asks(&[Kind::Tape]) => table.see(&Seen::tape(number, tape)),
-            _ => {}
+            Case::Clock(single) => table.see(&Seen::clock(&single.state, single.write)),
+            Case::Walk(walk) => see_walk(&mut table, walk),
+            Case::Line(line) if table.asks(Kind::Line) => table.see(&Seen::line(number, line)),
+            Case::Run(run) if table.asks(Kind::Run) => table.see(&Seen::run(number, run)),
+            Case::Tape(tape) if table.asks(Kind::Tape) => table.see(&Seen::tape(number, tape)),
+            Case::Line(_) | Case::Run(_) | Case::Tape(_) => {}
         }
     }
     table.text(|name, times| format!("missing: {} ({} more)\n", name, times))
@@ -73,34 +68,13 @@ mod tests {
     use crate::cases::bench::PRINTED_TAPE;
     use crate::cases::build_lists::records_of;
     use crate::cases::build_tapes::tape_of;
-    use crate::cases::case::TapeCase;
-    use crate::cases::case::{Call, LineCase, RunCase, RUN_CALLS};
-    use crate::cases::case::{Single, WaitedWrite, WALK_WRITES};
+    use crate::cases::case::{Call, LineCase, RunCase, Single, TapeCase, WaitedWrite, WALK_WRITES};
     use crate::cases::spoil::ReadingFault;
     use crate::model::clock::RegisterWrite;
     use crate::model::registers::Register;
     use crate::model::state::State;
     use crate::model::write_list::ListedWrite;
-
-    /// A single clock without a write, and a walk: HMOVE at clock 0, the unknown register 0 at
-    /// clocks 11, 22 and so on, 63 times.
-    fn clocks() -> [Case; 2] {
-        let waited = |wait: u8, address: u8| WaitedWrite {
-            wait,
-            write: RegisterWrite { address, value: 0 },
-        };
-        let mut writes = [waited(10, 0); WALK_WRITES];
-        writes[0] = waited(0, 0x2A);
-        let single = Single {
-            state: State::START,
-            write: None,
-        };
-        let walk = Walk {
-            state: State::START,
-            writes,
-        };
-        [Case::Clock(single), Case::Walk(walk)]
-    }
+    use std::collections::HashSet;
 
     /// The call with these records on the start state.
     fn line(writes: &[(u8, u8, u8)]) -> Seen {
@@ -114,6 +88,12 @@ mod tests {
         Seen::tape(0, &TapeCase::new(State::START, tape.to_vec(), place))
     }
 
+    /// A write of a walk.
+    fn waited(wait: u8, address: u8) -> WaitedWrite {
+        let write = RegisterWrite { address, value: 0 };
+        WaitedWrite { wait, write }
+    }
+
     /// The numbers of a line call's faults.
     fn faults_of(seen: &Seen) -> Vec<u8> {
         seen.line.faults.iter().map(|fault| fault.number).collect()
@@ -121,18 +101,26 @@ mod tests {
 
     #[test]
     fn counts_are_exact_and_kinds_told_apart() {
-        let asked: [(Kind, u32, fn(&Seen) -> bool); 5] = [
-            (Kind::Clock, 1, |seen| !seen.clock.in_walk),
-            (Kind::Clock, 937, |seen| seen.clock.in_walk),
-            (Kind::Clock, 936, |seen| seen.clock.after_hmove),
-            (Kind::RefusedClock, 63, |seen| seen.refused_with(7)),
-            (Kind::Line, 0, |_| true),
+        // The walk has HMOVE at clock 0, and register 0 at clocks 11, 22 and so on, 63 times.
+        let (state, write) = (State::START, None);
+        let mut writes = [waited(10, 0x00); WALK_WRITES];
+        writes[0] = waited(0, 0x2A);
+        let cases = [
+            Case::Clock(Single { state, write }),
+            Case::Walk(Walk { state, writes }),
+        ];
+        let asked: [(usize, u32, fn(&Seen) -> bool); 5] = [
+            (0, 1, |seen| !seen.clock.in_walk),
+            (0, 937, |seen| seen.clock.in_walk),
+            (0, 936, |seen| seen.clock.after_hmove),
+            (1, 63, |seen| seen.refused_with(7)),
+            (2, 0, |_| true),
         ];
         for (kind, times, counts) in asked {
             let missing = |times| {
-                let mut table = Table::new();
-                table.rows[kind as usize].row(times, "thing").when(counts);
-                missing_of(table, &clocks())
+                let mut table = Table::default();
+                table.by_kind()[kind].row(times, "thing").when(counts);
+                missing_of(table, &cases)
             };
             assert!(missing(times + 1).ends_with("thing (1 more)\n"));
             assert!(times == 0 || missing(times).is_empty());
@@ -141,13 +129,11 @@ mod tests {
 
     #[test]
     fn without_cases_every_row_is_missing_and_no_two_have_the_same_name() {
-        let mut rows: Vec<String> = text()
-            .lines()
-            .map(|row| row.split_once(' ').unwrap().1.to_string())
-            .collect();
-        assert_eq!(missing(&[]).lines().count(), rows.len());
-        rows.sort();
-        assert!(rows.windows(2).all(|two| two[0] != two[1]));
+        let text = text();
+        let names = text.lines().map(|row| row.split_once(' ').unwrap().1);
+        let names: HashSet<&str> = names.collect();
+        assert_eq!(names.len(), text.lines().count());
+        assert_eq!(names.len(), missing(&[]).lines().count());
     }
 
     #[test]
@@ -155,9 +141,8 @@ mod tests {
         let refused = line(&[(9, 0x2A, 0), (9, 0x00, 0), (228, 0x2A, 0)]);
         assert!(!refused.accepted() && refused.refused_with(6));
         assert_eq!(faults_of(&refused), [6, 7, 5]);
-        let bad = ListedWrite::new(9, 0, 0);
-        assert_eq!(refused.bad_record(6), Some((1, bad)));
-        assert!(refused.bad_record(5).is_none() && !refused.wrote(Register::Hmove));
+        assert_eq!(refused.bad_record(), ListedWrite::new(9, 0, 0));
+        assert!(!refused.wrote(Register::Hmove));
         let accepted = line(&[(9, 0x2A, 0), (100, 0x0E, 255)]);
         assert!(accepted.accepted() && accepted.wrote(Register::Hmove));
         let columns = (accepted.first_column(5), accepted.first_column(0));
@@ -166,15 +151,12 @@ mod tests {
 
     #[test]
     fn a_run_is_known_by_its_calls_and_the_states_given_to_them() {
-        let mut calls = vec![Call::with(&[]); RUN_CALLS];
-        calls[0] = Call::with(&records_of(&[(227, 0x2A, 0)]));
-        calls[1] = Call::with(&records_of(&[(0, 0x10, 0), (0, 0x10, 0)]));
-        let state = State::START;
-        let seen = Seen::run(0, &RunCase { state, calls });
+        let lines = [&[(227, 0x2A, 0)][..], &[(0, 0x10, 0), (0, 0x10, 0)]].map(records_of);
+        let seen = Seen::run(0, &RunCase::of_lines(State::START, &lines));
         let calls = seen.line.calls.iter();
         let calls: Vec<(u8, u8)> = calls.map(|call| (call.number, call.given.slot)).collect();
         assert_eq!(calls[..4], [(0, 16), (6, 0), (0, 0), (0, 16)]);
-        assert!(seen.run.findings.iter().all(Option::is_none));
+        assert!(seen.findings.iter().all(Option::is_none));
     }
 
     #[test]
@@ -182,13 +164,13 @@ mod tests {
         let cut = [1, 0, 6, 9, 0, 0];
         for (bytes, place, fault) in [
             (&[][..], 1, ReadingFault::Empty),
-            (&[2, 0][..], 1, ReadingFault::Version),
-            (&cut[..], 0, ReadingFault::PlaceZero),
-            (&cut[..], 7, ReadingFault::PastEnd),
-            (&cut[..], u64::MAX, ReadingFault::PastEnd),
-            (&cut[..], 5, ReadingFault::LoneByte),
-            (&cut[..], 2, ReadingFault::Length),
-            (&cut[..], 1, ReadingFault::Cut),
+            (&[2, 0], 1, ReadingFault::Version),
+            (&cut, 0, ReadingFault::PlaceZero),
+            (&cut, 7, ReadingFault::PastEnd),
+            (&cut, u64::MAX, ReadingFault::PastEnd),
+            (&cut, 5, ReadingFault::LoneByte),
+            (&cut, 2, ReadingFault::Length),
+            (&cut, 1, ReadingFault::Cut),
         ] {
             let seen = tape(bytes, place);
             for other in ReadingFault::ALL {
@@ -196,14 +178,14 @@ mod tests {
             }
             assert!(!seen.ended() && !seen.accepted());
         }
-        let seen = tape(&[3, 0, 4, 9], 1);
-        assert_eq!(seen.fault_with_version(1), Some(ReadingFault::Length));
-        let seen = tape(&[1, 0, 9, 255, 0, 0, 7], 1);
-        assert!(
-            seen.unread_line(ReadingFault::Cut, |length, missing| (length, missing)
-                == (9, 5))
+        let other_version = tape(&[3, 0, 4, 9], 1);
+        assert_eq!(
+            other_version.fault_but_version(),
+            Some(ReadingFault::Length)
         );
-        assert_eq!(faults_of(&seen), [4, 5, 7]);
+        let cut = tape(&[1, 0, 9, 255, 0, 0, 7], 1);
+        assert_eq!((cut.tape.length, cut.tape.missing), (9, 5));
+        assert_eq!(faults_of(&cut), [4, 5, 7]);
     }
 
     #[test]

@@ -2,11 +2,8 @@
 //! it was given and what came of it.
 
 use crate::cases::build_tapes::line_places;
-use crate::cases::case::TapeCase;
-use crate::cases::case::{LineCase, RunCase};
+use crate::cases::case::{LineCase, RunCase, TapeCase};
 use crate::cases::spoil::ReadingFault;
-use crate::cases::state_fields::to_bytes;
-use crate::cases::state_fields::{faults, Fault};
 use crate::model::clock::{run, Done, RegisterWrite};
 use crate::model::first_lit::first_lit;
 use crate::model::line_faults::line_faults;
@@ -14,7 +11,7 @@ use crate::model::object::is_start;
 use crate::model::refusal::Refusal;
 use crate::model::registers::Register;
 use crate::model::state::{State, NO_MOTION};
-use crate::model::tape::{read, stretch, Reading, FIRST_PLACE};
+use crate::model::tape::{read, stretch, Reading, FIRST_PLACE, VERSION};
 use crate::model::write_list::{records, ListedWrite};
 use crate::reports::demand3::{clocks_of, Finding, Line, PlayedRun};
 
@@ -28,11 +25,8 @@ pub enum Kind {
     Tape,
 }
 
-/// What the names of rows begin with, by the kind that they are asked of.
-pub const PREFIXES: [&str; 5] = ["", "", "line: ", "run: ", "tape: "];
-
 /// What was seen; a part that its kind does not have is empty. The refusal's number and record are
-/// both 0 if there was none.
+/// both 0 if there was none. The findings are those of demand 3 for each object in a run.
 pub struct Seen {
     pub kind: Kind,
     pub given: State,
@@ -41,7 +35,7 @@ pub struct Seen {
     pub record: usize,
     pub clock: ClockPart,
     pub line: LinePart,
-    pub run: RunPart,
+    pub findings: Vec<Option<Finding>>,
     pub tape: TapePart,
 }
 
@@ -73,19 +67,17 @@ pub struct SeenCall {
     pub number: u8,
 }
 
-/// What demand 3 finds of each object, and whether the run is also played from its first state.
-#[derive(Default)]
-pub struct RunPart {
-    pub findings: Vec<Option<Finding>>,
-    pub direct: bool,
-}
-
-/// The tape, the place given and the one handed back.
+/// The tape, the place given and the one handed back; the fault for which reading is refused; the
+/// length that stands at the place and how many of the line's bytes are missing, both 0 if not two
+/// bytes stand there.
 #[derive(Default)]
 pub struct TapePart {
     pub bytes: Vec<u8>,
     pub place: u64,
     pub next_place: u64,
+    fault: Option<ReadingFault>,
+    pub length: usize,
+    pub missing: usize,
 }
 
 impl Seen {
@@ -99,7 +91,7 @@ impl Seen {
             record: 0,
             clock: ClockPart::default(),
             line: LinePart::default(),
-            run: RunPart::default(),
+            findings: vec![],
             tape: TapePart::default(),
         }
     }
@@ -142,8 +134,7 @@ impl Seen {
             seen.after = played.answer.state;
         }
         seen.line.buffer = played.second_quiet().buffer.clone();
-        seen.run.findings = (0..5).map(|object| played.find(object)).collect();
-        seen.run.direct = played.direct.is_some();
+        seen.findings = (0..5).map(|object| played.find(object)).collect();
         seen
     }
 
@@ -153,14 +144,23 @@ impl Seen {
         let played = case.play(number);
         let answer = played.answer;
         (seen.number, seen.record, seen.after) = (answer.number, answer.record, answer.state);
-        seen.tape.bytes = case.tape.clone();
-        seen.tape.place = case.place;
-        seen.tape.next_place = answer.place;
-        let (_, there) = line_bytes(&case.tape, case.place);
+        let (length, there) = line_bytes(&case.tape, case.place);
         seen.set_line(case.length, there, played.buffer);
-        if let Ok(Reading::Line { start, end }) = seen.reading() {
-            seen.add_call(&case.state, &case.tape[start..end], answer.number);
+        match read(&case.tape, case.place) {
+            Ok(Reading::Line { .. }) => seen.add_call(&case.state, there, answer.number),
+            Err(refusal) if refusal.number == answer.number => {
+                seen.tape.fault = reading_fault(&case.tape, case.place);
+            }
+            _ => {}
         }
+        seen.tape = TapePart {
+            bytes: case.tape.clone(),
+            place: case.place,
+            next_place: answer.place,
+            length,
+            missing: length - there.len(),
+            ..seen.tape
+        };
         seen
     }
 
@@ -193,26 +193,14 @@ impl Seen {
         self.number == number && (self.kind != Kind::Tape || !self.line.calls.is_empty())
     }
 
-    /// Whether it was refused with 1 for this fault alone.
-    pub fn refused_for(&self, fault: Fault) -> bool {
-        self.refused_with(1) && self.state_faults() == [fault]
-    }
-
-    /// The faults of refusal 1 in the state given.
-    pub fn state_faults(&self) -> Vec<Fault> {
-        faults(&to_bytes(&self.given))
-    }
-
     /// Whether the line call has a fault of which this holds.
     pub fn has(&self, fault: impl Fn(&Refusal) -> bool) -> bool {
         self.line.faults.iter().any(fault)
     }
 
-    /// The record that was refused with this number, 5 to 7, and its index.
-    pub fn bad_record(&self, number: u8) -> Option<(usize, ListedWrite)> {
-        let call = self.line.calls.first();
-        let call = call.filter(|_| self.refused_with(number))?;
-        Some((self.record, call.records[self.record]))
+    /// The record for which a line call was refused with 5 to 7.
+    pub fn bad_record(&self) -> ListedWrite {
+        self.line.calls[0].records[self.record]
     }
 
     /// The accepted lines.
@@ -282,42 +270,27 @@ impl Seen {
 
 /// Questions to a tape call.
 impl Seen {
-    /// What reading finds at the place.
-    fn reading(&self) -> Result<Reading, Refusal> {
-        read(&self.tape.bytes, self.tape.place)
-    }
-
     /// Whether reading is refused for this fault and so is playing, with the same number.
     pub fn unread(&self, fault: ReadingFault) -> bool {
-        let same = |refusal: Refusal| refusal.number == self.number;
-        self.reading().err().map_or(false, same)
-            && reading_fault(&self.tape.bytes, self.tape.place) == Some(fault)
+        self.tape.fault == Some(fault)
     }
 
-    /// Whether reading is refused for this fault of a line, and this holds of the line's length
-    /// and of how many of its bytes are missing.
-    pub fn unread_line(&self, fault: ReadingFault, holds: impl Fn(usize, usize) -> bool) -> bool {
-        let (length, there) = line_bytes(&self.tape.bytes, self.tape.place);
-        let holds = |length: usize| holds(length, length - there.len());
-        self.unread(fault) && length.map_or(false, holds)
-    }
-
-    /// The fault for which reading would be refused if the version byte were this.
-    pub fn fault_with_version(&self, version: u8) -> Option<ReadingFault> {
+    /// The fault for which reading would be refused if the version byte were right.
+    pub fn fault_but_version(&self) -> Option<ReadingFault> {
         let mut tape = self.tape.bytes.clone();
-        *tape.first_mut()? = version;
+        *tape.first_mut()? = VERSION;
         reading_fault(&tape, self.tape.place)
     }
 
     /// Whether reading finds the tape's end and the call is not refused.
     pub fn ended(&self) -> bool {
-        self.reading() == Ok(Reading::Ended) && self.number == 0
+        let reading = read(&self.tape.bytes, self.tape.place);
+        reading == Ok(Reading::Ended) && self.number == 0
     }
 
-    /// The place's distance from the tape's end if it is past it.
-    pub fn past_the_end(&self) -> Option<u64> {
-        let end = self.tape.bytes.len() as u64;
-        self.tape.place.checked_sub(end).filter(|&past| past > 0)
+    /// Whether the place is that of a tape's first line.
+    pub fn is_first(&self) -> bool {
+        self.tape.place == FIRST_PLACE
     }
 
     /// Whether a line of the tape begins at a place.
@@ -327,26 +300,26 @@ impl Seen {
 
     /// Whether the place is within the tape and no border of a line.
     pub fn is_inner(&self) -> bool {
-        let place = self.tape.place;
-        let after = match line_places(&self.tape.bytes).last() {
-            Some(&last) => last + 2 + stretch(&self.tape.bytes, last).len() as u64,
+        let (tape, place) = (&self.tape.bytes, self.tape.place);
+        let after = match line_places(tape).last() {
+            Some(&last) => last + 2 + stretch(tape, last).len() as u64,
             None => FIRST_PLACE,
         };
         let border = place == after || self.begins_line(place);
-        place > 0 && self.past_the_end().is_none() && !border
+        (1..=tape.len() as u64).contains(&place) && !border
     }
 }
 
-/// The length that stands at a place of a tape and the line's bytes that are there; neither if not
-/// two bytes stand there.
-fn line_bytes(tape: &[u8], place: u64) -> (Option<usize>, &[u8]) {
+/// The length that stands at a place of a tape and the line's bytes that are there; 0 and none if
+/// not two bytes stand there.
+fn line_bytes(tape: &[u8], place: u64) -> (usize, &[u8]) {
     let place = usize::try_from(place).ok().filter(|&place| place > 0);
     match place.and_then(|place| tape.get(place..)) {
         Some([high, low, writes @ ..]) => {
-            let length = 256 * usize::from(*high) + usize::from(*low);
-            (Some(length), &writes[..length.min(writes.len())])
+            let length = usize::from(u16::from_be_bytes([*high, *low]));
+            (length, &writes[..length.min(writes.len())])
         }
-        _ => (None, &[]),
+        _ => (0, &[]),
     }
 }
 

@@ -1,5 +1,6 @@
 //! The rows for accepted clocks, in the order of the paper's steps.
 
+use crate::cases::drawing_writes::{is_for_drawing, write_changed_lit};
 use crate::coverage::seen::Seen;
 use crate::coverage::table::{named, Rows, Table, FEW, FLAGS, MOVABLE, OBJECTS, PLAYERS};
 use crate::model::latches::{lit_together, PAIRS};
@@ -10,50 +11,57 @@ use crate::model::state::{State, NO_MOTION};
 
 /// Adds all of them.
 pub fn add(table: &mut Table) {
-    let [rows, ..] = &mut table.rows;
-    late_flag(rows);
+    let [mut rows, ..] = table.by_kind();
+    let rows = &mut rows;
+    late_flag_and_blank(rows);
     bits_not_kept(rows);
     hmove(rows);
     graphics_copied(rows);
-    blank(rows);
     motion(rows);
     motion_writes(rows, "HM{}", Register::Motion);
     motion_writes(rows, "HMCLR", |_| Register::Hmclr);
     pulses(rows);
     starts(rows);
-    sizes(rows);
+    starts_decided(rows);
     strobes(rows);
     players_lit(rows);
     missiles_and_ball_lit(rows);
-    drawing_registers(rows);
     playfield(rows);
+    drawing_registers(rows);
     answer_bytes(rows);
     latches(rows);
     over_several_clocks(rows);
 }
 
-/// Step 1.
-fn late_flag(rows: &mut Rows) {
+/// Steps 1 and 3.
+fn late_flag_and_blank(rows: &mut Rows) {
     rows.row(FEW, "late flag falls at h = 0")
         .when(|seen| seen.given.h == 0 && seen.given.late && !seen.after.late);
     rows.row(FEW, "late flag set at h = 0 with HMOVE written")
         .when(|seen| seen.given.h == 0 && seen.given.late && seen.hmove());
     rows.row(FEW, "late flag stays set at the line's end")
         .when(|seen| seen.given.h == 227 && seen.after.late);
+    rows.row(FEW, "blank below 68")
+        .when(|seen| seen.blank() && seen.given.h < 68);
+    rows.row(FEW, "blank in 68 to 75 by the late flag")
+        .when(|seen| seen.blank() && seen.given.h >= 68);
+    rows.row(FEW, "68 to 75 without the late flag")
+        .when(|seen| !seen.blank() && seen.given.h < 76);
+    for h in [67, 68, 75, 76] {
+        rows.each(FEW, &format!("h = {h}, late flag {{}}"), FLAGS)
+            .when(move |seen, late| seen.given.h == h && seen.done().written.late == late);
+    }
 }
 
 /// Step 2: every register written with bits that are not kept.
 fn bits_not_kept(rows: &mut Rows) {
-    for (_, name, register) in KNOWN {
-        let ignored = !kept_bits(register);
-        if ignored != 0 {
-            let name = format!("{} written with a bit that is not kept", name);
-            rows.row(FEW, &name).when(move |seen| {
-                let value = seen.clock.write.map_or(0, |write| write.value);
-                seen.wrote(register) && value & ignored != 0
-            });
-        }
-    }
+    let kept = |(_, name, register)| (name, (register, kept_bits(register)));
+    let written = KNOWN.into_iter().map(kept).filter(|row| row.1 .1 != 255);
+    rows.each(FEW, "{} written with a bit that is not kept", written)
+        .when(|seen, (register, kept)| {
+            let value = seen.clock.write.map_or(0, |write| write.value);
+            seen.wrote(register) && value & !kept != 0
+        });
 }
 
 /// The bits of a register's value that the state keeps.
@@ -72,8 +80,7 @@ fn kept_bits(register: Register) -> u8 {
 /// Step 2: HMOVE by its clock, the motion under way and the late flag.
 fn hmove(rows: &mut Rows) {
     for (first, last) in [(0, 67), (68, 227), (0, 0), (67, 67), (68, 68), (227, 227)] {
-        let name = format!("HMOVE at clocks {} to {}", first, last);
-        rows.row(FEW, &name)
+        rows.row(FEW, &format!("HMOVE at clocks {first} to {last}"))
             .when(move |seen| seen.hmove() && (first..=last).contains(&seen.given.h));
     }
     rows.row(FEW, "HMOVE on a multiple of 4 with slot below 16")
@@ -90,31 +97,17 @@ fn hmove(rows: &mut Rows) {
 /// old one.
 fn graphics_copied(rows: &mut Rows) {
     for (player, other) in [(0, 1), (1, 0)] {
-        let name = format!("GRP{} changes the old graphic of P{}", player, other);
-        rows.row(FEW, &name).when(move |seen| {
-            let old = |state: &State| state.registers.grp_old[other];
-            seen.wrote(Register::Grp(player)) && old(&seen.given) != old(&seen.after)
-        });
-        let name = format!("GRP{} with the ball's enables differing", player);
-        rows.row(FEW, &name).when(move |seen| {
-            let before = seen.given.registers;
-            seen.wrote(Register::Grp(player)) && before.enabl_new != before.enabl_old
-        });
-    }
-}
-
-/// Step 3.
-fn blank(rows: &mut Rows) {
-    rows.row(FEW, "blank below 68")
-        .when(|seen| seen.blank() && seen.given.h < 68);
-    rows.row(FEW, "blank in 68 to 75 by the late flag")
-        .when(|seen| seen.blank() && seen.given.h >= 68);
-    rows.row(FEW, "68 to 75 without the late flag")
-        .when(|seen| !seen.blank() && seen.given.h < 76);
-    for h in [67, 68, 75, 76] {
-        let name = format!("h = {}, late flag {{}}", h);
-        rows.each(FEW, &name, FLAGS)
-            .when(move |seen, late| seen.given.h == h && seen.done().written.late == late);
+        let mut rows = rows.under(&format!("GRP{player} "));
+        rows.row(FEW, &format!("changes the old graphic of P{other}"))
+            .when(move |seen| {
+                let old = |state: &State| state.registers.grp_old[other];
+                seen.wrote(Register::Grp(player)) && old(&seen.given) != old(&seen.after)
+            });
+        rows.row(FEW, "with the ball's enables differing")
+            .when(move |seen| {
+                let before = seen.given.registers;
+                seen.wrote(Register::Grp(player)) && before.enabl_new != before.enabl_old
+            });
     }
 }
 
@@ -146,13 +139,13 @@ fn motion(rows: &mut Rows) {
 /// Step 4 with an object's motion register or HMCLR written on a comparing clock, and with the
 /// comparison coming out otherwise than it would without the write.
 fn motion_writes(rows: &mut Rows, written: &str, register: fn(usize) -> Register) {
-    let name = format!("{{}}: {} written on its comparing clock", written);
+    let name = format!("{{}}: {written} written on its comparing clock");
     rows.each(FEW, &name, MOVABLE).when(move |seen, n| {
         seen.wrote(register(n))
             && seen.done().motion.compared
             && seen.done().written.objects[n].live
     });
-    let name = format!("{{}}: {} written decides the comparison", written);
+    let name = format!("{{}}: {written} written decides the comparison");
     rows.each(FEW, &name, MOVABLE).when(move |seen, n| {
         let before = seen.given.objects[n];
         let without_it = before.live && before.end_slot() == seen.given.slot;
@@ -166,7 +159,7 @@ fn pulses(rows: &mut Rows) {
     rows.each(FEW, "{}: position 159 goes to 0", MOVABLE)
         .when(|seen, n| seen.reached(n) == Some(0) && !seen.strobed(n));
     for age in [63, 64] {
-        let name = format!("{{}}: pulse at age {} gives age 64", age);
+        let name = format!("{{}}: pulse at age {age} gives age 64");
         rows.each(FEW, &name, MOVABLE).when(move |seen, n| {
             let ages = (seen.given.objects[n].age, seen.after.objects[n].age);
             seen.done().pulsed[n] && ages == (age, 64)
@@ -176,48 +169,42 @@ fn pulses(rows: &mut Rows) {
         .when(|seen, n| seen.blank() && !seen.done().pulsed[n]);
 }
 
-/// Step 6: each position that can be a start, reached with each copies; a start in the blank; and
-/// NUSIZ deciding.
+/// Step 6: each position that can be a start, reached with each copies, as a start or not.
 fn starts(rows: &mut Rows) {
     for (of, n) in MOVABLE {
         for position in [0, 16, 32, 64] {
-            for copies in (0..8).map(Some).chain([None]) {
-                if copies.is_some() == (n != BL) {
-                    start_at(rows, (of, n), position, copies);
-                }
+            let copies = (0..8).map(Some).chain([None]);
+            for copies in copies.filter(|copies| copies.is_none() == (n == BL)) {
+                let start = is_start(position, copies);
+                let no = if start { "" } else { "no " };
+                let with = copies.map_or(String::new(), |copies| format!(" with copies {copies}"));
+                rows.row(FEW, &format!("{of}: {no}start at {position}{with}"))
+                    .when(move |seen| {
+                        seen.reached(n) == Some(position)
+                            && !seen.strobed(n)
+                            && seen.done().written.registers.copies_of(n) == copies
+                            && seen.done().started[n] == start
+                    });
             }
         }
     }
+}
+
+/// Step 6: a start in the blank, NUSIZ deciding a start, and each size taken by a player that held
+/// another, or the same.
+fn starts_decided(rows: &mut Rows) {
     rows.each(FEW, "{}: start by an extra pulse in the blank", MOVABLE)
         .when(|seen, n| seen.done().started[n] && seen.blank());
-    let name = "{}: NUSIZ written decides a start";
-    rows.each(FEW, name, MOVABLE.into_iter().take(BL))
+    let with_copies = MOVABLE.into_iter().take(BL);
+    rows.each(FEW, "{}: NUSIZ written decides a start", with_copies)
         .when(|seen, n| {
             let before = seen.given.registers.copies_of(n);
             let is_start = |position| is_start(position, before);
             let start_before = seen.reached(n).map_or(false, is_start);
             !seen.strobed(n) && start_before != seen.done().started[n]
         });
-}
-
-/// Step 6: a position reached by an object with these copies, as a start or not.
-fn start_at(rows: &mut Rows, (of, n): (&str, usize), position: u8, copies: Option<u8>) {
-    let start = is_start(position, copies);
-    let no = if start { "" } else { "no " };
-    let with = copies.map_or(String::new(), |copies| format!(" with copies {}", copies));
-    let name = format!("{}: {}start at {}{}", of, no, position, with);
-    rows.row(FEW, &name).when(move |seen| {
-        seen.reached(n) == Some(position)
-            && !seen.strobed(n)
-            && seen.done().written.registers.copies_of(n) == copies
-            && seen.done().started[n] == start
-    });
-}
-
-/// Step 6: each size taken by a player that held another, or the same.
-fn sizes(rows: &mut Rows) {
     for size in [1, 2, 4] {
-        let name = format!("{{}}: size {} taken in place of another", size);
+        let name = format!("{{}}: size {size} taken in place of another");
         rows.each(FEW, &name, PLAYERS)
             .when(move |seen, n| seen.given.sizes[n] != size && seen.after.sizes[n] == size);
     }
@@ -246,35 +233,31 @@ fn strobes(rows: &mut Rows) {
 /// Step 8: a player lit in an unblanked column at each size, reflected or not, by each VDELP; and
 /// at the first and last lit age and the ages just outside, the graphic's bit at that end being 1.
 fn players_lit(rows: &mut Rows) {
-    for (of, n) in PLAYERS {
-        for size in [1, 2, 4] {
-            for reflected in [false, true] {
-                let name = format!("{}: lit with size {}, reflected {}", of, size, reflected);
-                rows.each(FEW, &(name + ", VDELP {}"), FLAGS)
-                    .when(move |seen, old| {
-                        let registers = seen.after.registers;
-                        let shown = graphic(&registers, n);
-                        seen.lit(n, true)
-                            && seen.after.sizes[n] == size
-                            && registers.refp[n] == reflected
-                            && shown != shown.reverse_bits()
-                            && registers.vdelp[n] == old
-                            && registers.grp_new[n] != registers.grp_old[n]
-                    });
-            }
-            let last = 4 + 8 * size;
-            let name = format!("{}: age {{}} with size {}", of, size);
-            rows.each(FEW, &name, named([4, 5, last, last + 1]))
-                .when(move |seen, age| {
-                    let registers = seen.after.registers;
-                    let (reflected, at_first) = (registers.refp[n], age <= 5);
-                    let outer = if reflected == at_first { 0x01 } else { 0x80 };
-                    seen.lit(n, (5..=last).contains(&age))
-                        && seen.after.objects[n].age == age
-                        && seen.after.sizes[n] == size
-                        && graphic(&registers, n) & outer != 0
-                });
+    for ((of, n), size) in PLAYERS.repeat(3).into_iter().zip([1, 1, 2, 2, 4, 4]) {
+        for reflected in [false, true] {
+            let name = format!("{of}: lit with size {size}, reflected {reflected}, VDELP {{}}");
+            rows.each(FEW, &name, FLAGS).when(move |seen, old| {
+                let registers = seen.after.registers;
+                let shown = graphic(&registers, n);
+                seen.lit(n, true)
+                    && seen.after.sizes[n] == size
+                    && registers.refp[n] == reflected
+                    && shown != shown.reverse_bits()
+                    && registers.vdelp[n] == old
+                    && registers.grp_new[n] != registers.grp_old[n]
+            });
         }
+        let last = 4 + 8 * size;
+        let ages = named([4, 5, last, last + 1]);
+        rows.each(FEW, &format!("{of}: age {{}} with size {size}"), ages)
+            .when(move |seen, age| {
+                let reflected = seen.after.registers.refp[n];
+                let outer = if reflected == (age <= 5) { 0x01 } else { 0x80 };
+                seen.lit(n, (5..=last).contains(&age))
+                    && seen.after.objects[n].age == age
+                    && seen.after.sizes[n] == size
+                    && graphic(&seen.after.registers, n) & outer != 0
+            });
     }
     rows.each(FEW, "{}: dark by its graphic at a lit age", PLAYERS)
         .when(|seen, n| seen.lit(n, false) && at_lit_age(&seen.after, n));
@@ -293,26 +276,26 @@ fn missiles_and_ball_lit(rows: &mut Rows) {
         for wide in [1, 2, 4, 8] {
             let last = 3 + wide;
             let is_wide = move |seen: &Seen| width(&seen.after.registers, n) == wide;
-            let name = format!("{}: at a lit age with width {}, enabled {{}}", of, wide);
+            let name = format!("{of}: at a lit age with width {wide}, enabled {{}}");
             rows.each(FEW, &name, FLAGS).when(move |seen, on| {
                 seen.lit(n, on)
                     && is_wide(seen)
-                    && (4..=last).contains(&seen.after.objects[n].age)
+                    && at_lit_age(&seen.after, n)
                     && enabled(&seen.after.registers, n) == on
             });
             let mut ages = named([3, 4, last, last + 1]);
             ages.dedup();
-            let name = format!("{}: age {{}} with width {}", of, wide);
-            rows.each(FEW, &name, ages).when(move |seen, age| {
-                seen.lit(n, (4..=last).contains(&age))
-                    && is_wide(seen)
-                    && seen.after.objects[n].age == age
-                    && enabled(&seen.after.registers, n)
-            });
+            rows.each(FEW, &format!("{of}: age {{}} with width {wide}"), ages)
+                .when(move |seen, age| {
+                    seen.lit(n, (4..=last).contains(&age))
+                        && is_wide(seen)
+                        && seen.after.objects[n].age == age
+                        && enabled(&seen.after.registers, n)
+                });
         }
     }
     for old in [false, true] {
-        let name = format!("BL: VDELBL {}, enables differing, lit {{}}", old);
+        let name = format!("BL: VDELBL {old}, enables differing, lit {{}}");
         rows.each(FEW, &name, FLAGS).when(move |seen, on| {
             let registers = seen.after.registers;
             seen.lit(BL, on)
@@ -325,15 +308,13 @@ fn missiles_and_ball_lit(rows: &mut Rows) {
 
 /// Steps 8 and 9: each drawing register changing what is lit on the clock of its write.
 fn drawing_registers(rows: &mut Rows) {
-    for (_, name, register) in KNOWN {
-        if register.is_for_drawing() {
-            let name = format!("{} changes what is lit on the clock of its write", name);
-            rows.row(FEW, &name).when(move |seen| {
-                let changed = || seen.done().write_changed_lit(&seen.given);
-                seen.wrote(register) && !seen.blank() && changed()
-            });
-        }
-    }
+    let registers = KNOWN.map(|(_, name, register)| (name, register));
+    let drawing = registers.into_iter().filter(|row| is_for_drawing(row.1));
+    let name = "{} changes what is lit on the clock of its write";
+    rows.each(FEW, name, drawing).when(|seen, register| {
+        let changed = || write_changed_lit(&seen.given, seen.done());
+        seen.wrote(register) && !seen.blank() && changed()
+    });
 }
 
 /// Step 9: each of the 20 playfield bits lit on the left, repeated and reflected.
@@ -344,13 +325,13 @@ fn playfield(rows: &mut Rows) {
             ("right, repeated", 20 + bit, Some(false)),
             ("right, reflected", 39 - bit, Some(true)),
         ] {
-            let name = format!("PF: bit {} {}, lit {{}}", bit, way);
-            rows.each(FEW, &name, FLAGS).when(move |seen, on| {
-                let reflect = seen.after.registers.ctrlpf % 2 == 1;
-                seen.lit(PF, on)
-                    && (seen.given.h - 68) / 4 == at
-                    && reflected.map_or(true, |reflected| reflected == reflect)
-            });
+            rows.each(FEW, &format!("PF: bit {bit} {way}, lit {{}}"), FLAGS)
+                .when(move |seen, on| {
+                    let reflect = seen.after.registers.ctrlpf % 2 == 1;
+                    seen.lit(PF, on)
+                        && (seen.given.h - 68) / 4 == at
+                        && reflected.map_or(true, |reflected| reflected == reflect)
+                });
         }
     }
 }
@@ -358,7 +339,7 @@ fn playfield(rows: &mut Rows) {
 /// Step 10: each bit of the answer byte, and the bytes 128, 64 and 0.
 fn answer_bytes(rows: &mut Rows) {
     for (of, bit) in OBJECTS {
-        rows.row(FEW, &format!("answer bit {} for {}", bit, of))
+        rows.row(FEW, &format!("answer bit {bit} for {of}"))
             .when(move |seen| !seen.blank() && seen.done().byte >> bit & 1 == 1);
     }
     rows.each(FEW, "answer byte {}", named([128, 64, 0]))
@@ -386,15 +367,12 @@ fn latches(rows: &mut Rows) {
 fn over_several_clocks(rows: &mut Rows) {
     let crosses = |seen: &Seen| seen.given.h == 227 && seen.after.h == 0;
     rows.row(FEW, "h goes from 227 to 0").when(crosses);
-    rows.row(FEW, "walk: motion of an HMOVE completes")
-        .when(|seen| {
-            seen.clock.after_hmove && seen.given.slot == 15 && seen.after.slot == NO_MOTION
-        });
-    rows.row(
-        FEW,
-        "walk: motion of an HMOVE under way across the line's end",
-    )
-    .when(move |seen| seen.clock.after_hmove && seen.under_way() && crosses(seen));
-    rows.row(FEW, "walk: the start state given")
+    let mut walk = rows.under("walk: ");
+    walk.row(FEW, "motion of an HMOVE completes").when(|seen| {
+        seen.clock.after_hmove && seen.given.slot == 15 && seen.after.slot == NO_MOTION
+    });
+    walk.row(FEW, "motion of an HMOVE under way across the line's end")
+        .when(move |seen| seen.clock.after_hmove && seen.under_way() && crosses(seen));
+    walk.row(FEW, "the start state given")
         .when(|seen| seen.clock.in_walk && seen.given == State::START);
 }

@@ -4,13 +4,14 @@
 use crate::cases::case::{Case, LineCase, RunCase, Single, TapeCase, Walk};
 use crate::cases::record::{cases_of, KINDS};
 use crate::cases::state_fields::to_bytes;
+use crate::model::first_lit::first_lit;
 use crate::model::input::bytes_of_input;
 use crate::model::latches::read_out;
 use crate::model::state::State;
 use crate::model::tape::{read, stretch, Reading};
 use crate::reports::digest::Digest;
 use crate::reports::failure::Failure;
-use crate::reports::texts::first_lit_text;
+use crate::reports::texts::answer_text;
 use std::io::{Read, Write};
 
 /// The objects whose first lit column is printed; the last two are none.
@@ -54,17 +55,11 @@ fn read_out_of(state: &State) -> (u8, usize, [u8; 8]) {
 /// A single clock: its answer and the read-out after it.
 fn clock_fields(single: &Single) -> String {
     let answer = single.play();
-    let (number, record, bytes) = read_out_of(&answer.state);
-    format!(
-        "{} {} {} {} {} {} {:016x}",
-        answer.number,
-        answer.record,
-        answer.byte,
-        state_digest(&answer.state),
-        number,
-        record,
-        u64::from_be_bytes(bytes)
-    )
+    let (number, record, byte) = (answer.number, answer.record, answer.byte);
+    let state = state_digest(&answer.state);
+    let (refused, at, bytes) = read_out_of(&answer.state);
+    let bytes = u64::from_be_bytes(bytes);
+    format!("{number} {record} {byte} {state} {refused} {at} {bytes:016x}")
 }
 
 /// A walk: for each clock number, record, answer byte, state, and number, record and bytes of the
@@ -84,15 +79,14 @@ fn walk_digest(walk: &Walk) -> Digest {
 /// A line call: its answer, its bytes and the first lit columns in them.
 fn line_fields(number: usize, case: &LineCase) -> String {
     let played = case.play(number);
-    let columns = OBJECTS.map(|object| first_lit_text(&played.buffer, object));
-    format!(
-        "{} {} {} {} {}",
-        played.answer.number,
-        played.answer.record,
-        state_digest(&played.answer.state),
-        Digest::of(&played.buffer),
-        columns.join(" ")
-    )
+    let columns = OBJECTS.map(|object| {
+        let column = first_lit(&played.buffer, object);
+        answer_text(column.map(|column| column.map_or("-".into(), |column| column.to_string())))
+    });
+    let (number, record) = (played.answer.number, played.answer.record);
+    let state = state_digest(&played.answer.state);
+    let bytes = Digest::of(&played.buffer);
+    format!("{number} {record} {state} {bytes} {}", columns.join(" "))
 }
 
 /// A run: for each call number, record, state and buffer. A record's index, at most 227, is one
@@ -115,19 +109,12 @@ fn tape_fields(number: usize, case: &TapeCase) -> String {
         Ok(Reading::Ended) => (0, 0, 0),
         Err(refusal) => (refusal.number, 0, 0),
     };
+    let stretch = Digest::of(stretch(&case.tape, case.place));
     let played = case.play(number);
-    format!(
-        "{} {} {} {} {} {} {} {} {}",
-        refused,
-        start,
-        end,
-        Digest::of(stretch(&case.tape, case.place)),
-        played.answer.number,
-        played.answer.record,
-        played.answer.place,
-        state_digest(&played.answer.state),
-        Digest::of(&played.buffer)
-    )
+    let answer = played.answer;
+    let (number, record, place) = (answer.number, answer.record, answer.place);
+    let [state, bytes] = [state_digest(&answer.state), Digest::of(&played.buffer)];
+    format!("{refused} {start} {end} {stretch} {number} {record} {place} {state} {bytes}")
 }
 
 #[cfg(test)]
@@ -136,7 +123,24 @@ mod tests {
     use crate::cases::bench::PRINTED_TAPE;
     use crate::cases::build_lists::records_of;
     use crate::cases::case::{Call, WaitedWrite, WALK_WRITES};
-    use crate::model::clock::RegisterWrite;
+    use crate::tests::playing::to;
+
+    /// A single clock without a write on the start state with all latches set.
+    const ALL_LATCHED: Single = Single {
+        state: State {
+            latches: [true; 15],
+            ..State::START
+        },
+        write: None,
+    };
+
+    /// The fields of the two objects that are none.
+    const NO_OBJECTS: &str = "refused(10,0) refused(10,0)";
+
+    /// The digest of the buffer that record 0 lends.
+    fn lent() -> Digest {
+        Digest::of(&(0..160).collect::<Vec<u8>>())
+    }
 
     /// The start state after a line in which each object passed a start: age 0 at position 0.
     fn after_a_line() -> State {
@@ -147,34 +151,21 @@ mod tests {
         state
     }
 
-    /// The digest of a buffer of 160 bytes as the record with this number lends it.
-    fn kept(number: usize) -> Digest {
-        let bytes: Vec<u8> = (0..160).map(|n| (number + n) as u8).collect();
-        Digest::of(&bytes)
+    #[test]
+    fn a_clock_is_its_answer_and_the_read_out() {
+        let after = state_digest(&State {
+            h: 1,
+            ..ALL_LATCHED.state
+        });
+        let expected = format!("clock 3 0 0 128 {after} 0 0 c0c0c0c0c0c080c0");
+        assert_eq!(row(3, &Case::Clock(ALL_LATCHED)), expected);
     }
 
     #[test]
-    fn rows_of_accepted_and_refused_clocks() {
-        let mut state = State::START;
-        state.latches = [true; 15];
-        let mut single = Single { state, write: None };
-        let after = state_digest(&State { h: 1, ..state });
-        let expected = format!("clock 3 0 0 128 {} 0 0 c0c0c0c0c0c080c0", after);
-        assert_eq!(row(3, &Case::Clock(single)), expected);
-        single.state.slot = 17;
-        let given = state_digest(&single.state);
-        let expected = format!("clock 5 1 0 0 {} 1 0 0000000000000000", given);
-        assert_eq!(row(5, &Case::Clock(single)), expected);
-    }
-
-    #[test]
-    fn a_walk_from_a_bad_state_repeats_the_refusal() {
+    fn a_walk_is_the_digest_of_its_1000_clocks() {
         let mut state = State::START;
         state.registers.pf0 = 16;
-        let write = RegisterWrite {
-            address: 0x2A,
-            value: 0,
-        };
+        let write = to(0x2A, 0).unwrap();
         let writes = [WaitedWrite { wait: 0, write }; WALK_WRITES];
         let mut digest = Digest::new();
         for _ in 0..1000 {
@@ -183,33 +174,27 @@ mod tests {
             digest.add(&[1, 0, 0, 0, 0, 0, 0, 0, 0, 0]);
         }
         let walk = Case::Walk(Walk { state, writes });
-        assert_eq!(row(9, &walk), format!("walk 9 {}", digest));
+        assert_eq!(row(9, &walk), format!("walk 9 {digest}"));
     }
 
     #[test]
-    fn rows_of_accepted_and_refused_lines() {
-        let mut case = LineCase {
-            state: State::START,
-            call: Call::with(&records_of(&[(100, 0x0E, 255)])),
+    fn a_line_is_its_answer_its_bytes_and_the_first_lit_columns() {
+        let row_of = |writes| {
+            let call = Call::with(&records_of(writes));
+            let state = State::START;
+            row(0, &Case::Line(LineCase { state, call }))
         };
         let mut after = after_a_line();
         after.registers.pf1 = 255;
         let mut bytes = [0; 160];
         bytes[32..48].fill(32);
         bytes[96..128].fill(32);
-        let expected = format!(
-            "line 3 0 0 {} {} - - - - - 32 refused(10,0) refused(10,0)",
-            state_digest(&after),
-            Digest::of(&bytes)
-        );
-        assert_eq!(row(3, &Case::Line(case.clone())), expected);
-        case.call = Call::with(&records_of(&[(8, 0x2A, 0), (9, 0, 0)]));
-        let expected = format!(
-            "line 0 7 1 {} {} 1 2 4 8 16 32 refused(10,0) refused(10,0)",
-            state_digest(&State::START),
-            kept(0)
-        );
-        assert_eq!(row(0, &Case::Line(case)), expected);
+        let [state, bytes] = [state_digest(&after), Digest::of(&bytes)];
+        let expected = format!("line 0 0 0 {state} {bytes} - - - - - 32 {NO_OBJECTS}");
+        assert_eq!(row_of(&[(100, 0x0E, 255)]), expected);
+        let [state, bytes] = [state_digest(&State::START), lent()];
+        let expected = format!("line 0 7 1 {state} {bytes} 1 2 4 8 16 32 {NO_OBJECTS}");
+        assert_eq!(row_of(&[(8, 0x2A, 0), (9, 0, 0)]), expected);
     }
 
     #[test]
@@ -228,44 +213,30 @@ mod tests {
             digest.add(&to_bytes(&after_a_line()));
             digest.add(&bytes);
         }
-        assert_eq!(row(70, &Case::Run(run)), format!("run 70 {}", digest));
+        assert_eq!(row(70, &Case::Run(run)), format!("run 70 {digest}"));
     }
 
     #[test]
-    fn rows_of_played_ended_and_refused_tapes() {
-        let state = state_digest(&State::START);
-        let row_at = |place: u64| {
+    fn a_tape_is_its_reading_and_the_answer_of_playing() {
+        let [given, lent] = [state_digest(&State::START), lent()];
+        let [after, dark] = [state_digest(&after_a_line()), Digest::of(&[0; 160])];
+        for (place, expected) in [
+            (9, format!("0 11 11 00000000 0 0 11 {after} {dark}")),
+            (21, format!("0 0 0 00000000 0 0 0 {given} {lent}")),
+            (2, format!("4 0 0 00000000 4 0 0 {given} {lent}")),
+        ] {
             let case = TapeCase::new(State::START, PRINTED_TAPE.to_vec(), place);
-            row(300, &Case::Tape(case))
-        };
-        let after = state_digest(&after_a_line());
-        let dark = Digest::of(&[0; 160]);
-        let expected = format!("tape 300 0 11 11 00000000 0 0 11 {} {}", after, dark);
-        assert_eq!(row_at(9), expected);
-        let expected = format!("tape 300 0 0 0 00000000 0 0 0 {} {}", state, kept(300));
-        assert_eq!(row_at(21), expected);
-        for (place, number) in [(0, 9), (u64::MAX, 9), (2, 4), (20, 9)] {
-            let refused = format!("tape 300 {} 0 0 00000000 {} 0 0", number, number);
-            assert_eq!(
-                row_at(place),
-                format!("{} {} {}", refused, state, kept(300))
-            );
+            assert_eq!(row(0, &Case::Tape(case)), format!("tape 0 {expected}"));
         }
     }
 
     #[test]
     fn the_rows_before_a_cut_record_are_written() {
-        let single = Single {
-            state: State::START,
-            write: None,
-        };
-        let mut file = Case::Clock(single).write().repeat(2);
+        let mut file = Case::Clock(ALL_LATCHED).write().repeat(2);
         file.pop();
         let mut out = Vec::new();
-        let done = write(&mut &file[..], &mut out);
-        let text = "record 1 is cut or of an unknown kind\n";
-        assert_eq!(done, Err(Failure::Named(text.to_string())));
-        let first = row(0, &Case::Clock(single)) + "\n";
-        assert_eq!(out, first.as_bytes());
+        let text = "record 1 is cut or of an unknown kind\n".to_string();
+        assert_eq!(write(&mut &file[..], &mut out), Err(Failure::Named(text)));
+        assert_eq!(out, (row(0, &Case::Clock(ALL_LATCHED)) + "\n").as_bytes());
     }
 }

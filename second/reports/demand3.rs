@@ -39,12 +39,6 @@ pub fn sets_motion(record: &ListedWrite) -> bool {
     matches!(register, Some(Register::Motion(_) | Register::Hmclr))
 }
 
-/// Whether a record writes a motion register or HMCLR after a clock, up to and including 75.
-pub fn sets_motion_after(record: &ListedWrite, clock: u8) -> bool {
-    let guarded = record.clock > clock && record.clock <= LAST_GUARDED_CLOCK;
-    guarded && sets_motion(record)
-}
-
 /// Whether a line keeps the premises of an object: it does not use its strobe, and it has no HMOVE,
 /// or exactly one, at clocks 0 to 15, with no motion register and no HMCLR written after it up to
 /// and including clock 75.
@@ -52,8 +46,10 @@ fn keeps_premises(line: &Line, object: usize) -> bool {
     let hmove_allowed = match clocks_of(line, Register::Hmove)[..] {
         [] => true,
         [clock] => {
-            let unguarded = |record: &ListedWrite| !sets_motion_after(record, clock);
-            clock <= LAST_HMOVE_CLOCK && line.iter().all(unguarded)
+            let guarded = clock + 1..=LAST_GUARDED_CLOCK;
+            let late =
+                |record: &ListedWrite| guarded.contains(&record.clock) && sets_motion(record);
+            clock <= LAST_HMOVE_CLOCK && !line.iter().any(late)
         }
         _ => false,
     };
@@ -61,11 +57,8 @@ fn keeps_premises(line: &Line, object: usize) -> bool {
 }
 
 /// The object's half byte at each HMOVE of these lines: as last written, or cleared by HMCLR,
-/// before it in them, else that of the state before them. None if a line breaks the premises.
-fn half_bytes(before: &State, lines: &[Line], object: usize) -> Option<Vec<u8>> {
-    if !lines.iter().all(|line| keeps_premises(line, object)) {
-        return None;
-    }
+/// before it in them, else that of the state before them.
+fn half_bytes(before: &State, lines: &[Line], object: usize) -> Vec<u8> {
     let mut half_byte = before.objects[object].motion;
     let mut at_hmoves = Vec::new();
     for record in lines.iter().flatten() {
@@ -78,7 +71,7 @@ fn half_bytes(before: &State, lines: &[Line], object: usize) -> Option<Vec<u8>> 
             _ => {}
         }
     }
-    Some(at_hmoves)
+    at_hmoves
 }
 
 /// The sum of half bytes as signed motion values, 8 to 15 meaning -8 to -1.
@@ -147,13 +140,13 @@ fn passes_column_0(before: &State, object: usize, sum: i32) -> bool {
 pub struct PlayedRun {
     run: RunCase,
     chain: Vec<Played>,
-    pub direct: Option<Vec<Played>>,
+    direct: Option<Vec<Played>>,
 }
 
 /// What was found of an object in a run that keeps its premises: the half bytes at the HMOVEs,
 /// whether the picture claim was due, whether a call was refused, whether the sum passes column 0,
 /// and the claims that are false.
-#[derive(Clone, Debug, PartialEq, Eq)]
+#[derive(Clone, Debug, Default, PartialEq, Eq)]
 pub struct Finding {
     pub half_bytes: Vec<u8>,
     pub picture: bool,
@@ -190,21 +183,21 @@ impl PlayedRun {
         if given.check().is_err() || given.h != 0 {
             return None;
         }
-        let quiet = self.second_quiet();
+        let lines = accepted_lines(&self.run.calls, self.own());
+        if !lines.iter().all(|line| keeps_premises(line, object)) {
+            return None;
+        }
+        let (quiet, last) = (self.second_quiet(), &self.chain[self.chain.len() - 1]);
         let before = &quiet.answer.state;
         let after = state_after(before, self.own());
-        let lines = accepted_lines(&self.run.calls, self.own());
-        let half_bytes = half_bytes(before, &lines, object)?;
+        let half_bytes = half_bytes(before, &lines, object);
         let sum = signed_sum(&half_bytes);
         let drawing = |state: &State| drawing_registers(&state.registers, object);
         let picture = drawing(given) == drawing(after);
-        let turned = || picture_holds(&quiet.buffer, &self.last().buffer, object, sum);
+        let turned = || picture_holds(&quiet.buffer, &last.buffer, object, sum);
         let claims = [
             ("position", position_holds(before, after, object, sum)),
-            (
-                "position from the first state",
-                self.direct_position_holds(object),
-            ),
+            ("position from the first state", self.direct_holds(object)),
             ("picture", !picture || turned()),
         ];
         let is_false = |&(name, holds): &(&'static str, bool)| Some(name).filter(|_| !holds);
@@ -217,23 +210,15 @@ impl PlayedRun {
         })
     }
 
-    /// The last line without writes.
-    fn last(&self) -> &Played {
-        &self.chain[self.chain.len() - 1]
-    }
-
-    /// Whether the position claim holds over the run's own calls from the first state; so it does
-    /// where it is not due.
-    fn direct_position_holds(&self, object: usize) -> bool {
+    /// The position claim over the run's own calls from the first state; it holds where they are
+    /// not played from it.
+    fn direct_holds(&self, object: usize) -> bool {
         let given = &self.run.state;
-        let holds = |direct: &Vec<Played>| {
+        self.direct.as_ref().map_or(true, |direct| {
             let lines = accepted_lines(&self.run.calls, direct);
-            half_bytes(given, &lines, object).map_or(true, |half_bytes| {
-                let after = state_after(given, direct);
-                position_holds(given, after, object, signed_sum(&half_bytes))
-            })
-        };
-        self.direct.as_ref().map_or(true, holds)
+            let sum = signed_sum(&half_bytes(given, &lines, object));
+            position_holds(given, state_after(given, direct), object, sum)
+        })
     }
 }
 
@@ -246,7 +231,7 @@ fn state_after<'a>(before: &'a State, played: &'a [Played]) -> &'a State {
 mod tests {
     use super::*;
     use crate::cases::build_lists::records_of;
-    use crate::cases::case::RUN_CALLS;
+    use crate::model::first_lit::first_lit;
     use crate::model::object::{M0, M1};
 
     /// The writes of a line: clock, address, value.
@@ -257,20 +242,10 @@ mod tests {
         keeps_premises(&records_of(writes), M0)
     }
 
-    /// The half bytes of an object in lines from the start state, its motion value being 5.
-    fn half_bytes_of(object: usize, lines: &[Writes]) -> Option<Vec<u8>> {
-        let mut state = State::START;
-        state.objects[object].motion = 5;
-        let lines: Vec<Line> = lines.iter().map(|line| records_of(line)).collect();
-        half_bytes(&state, &lines, object)
-    }
-
     /// A run from a state that was played: these lines, then lines without writes.
     fn played(state: State, lines: &[Writes]) -> PlayedRun {
-        let call = |line: &Writes| Call::with(&records_of(line));
-        let mut calls: Vec<Call> = lines.iter().map(call).collect();
-        calls.resize(RUN_CALLS, Call::with(&[]));
-        PlayedRun::new(0, &RunCase { state, calls })
+        let lines: Vec<Line> = lines.iter().map(|line| records_of(line)).collect();
+        PlayedRun::new(0, &RunCase::of_lines(state, &lines))
     }
 
     /// The state after a line in which missile 0 is enabled and strobed at a clock.
@@ -280,17 +255,16 @@ mod tests {
     }
 
     #[test]
-    fn hmove_is_allowed_once_at_clocks_0_to_15() {
-        assert!(keeps(&[]));
+    fn hmove_is_allowed_once_at_clocks_0_to_15_and_the_objects_own_strobe_never() {
         for clock in 0..228 {
             assert_eq!(keeps(&[(clock, 0x2A, 0)]), clock <= 15);
         }
         assert!(!keeps(&[(3, 0x2A, 0), (15, 0x2A, 0)]));
         assert!(!keeps(&[(3, 0x2A, 0), (200, 0x2A, 0)]));
-        let (allowed, late): (Writes, Writes) = (&[(15, 0x2A, 0)], &[(16, 0x2A, 0)]);
-        assert_eq!(half_bytes_of(M0, &[allowed, allowed]), Some(vec![5, 5]));
-        assert_eq!(half_bytes_of(M0, &[allowed, late]), None);
-        assert_eq!(half_bytes_of(M0, &[late, allowed]), None);
+        for (object, strobed) in (0..25).map(|n| (n / 5, n % 5)) {
+            let line = records_of(&[(100, 0x10 + strobed as u8, 0)]);
+            assert_eq!(keeps_premises(&line, object), object != strobed);
+        }
     }
 
     #[test]
@@ -309,27 +283,20 @@ mod tests {
     }
 
     #[test]
-    fn only_the_objects_own_strobe_breaks_its_premises() {
-        for object in 0..5 {
-            for strobed in 0..5 {
-                let line = records_of(&[(100, 0x10 + strobed as u8, 0)]);
-                assert_eq!(keeps_premises(&line, object), object != strobed);
-            }
-        }
-    }
-
-    #[test]
     fn a_half_byte_is_the_one_last_written_before_the_hmove() {
-        let lines: [Writes; 5] = [
-            &[(9, 0x2A, 0), (76, 0x22, 0x8F)],
-            &[(0, 0x2A, 0), (80, 0x22, 0x10), (81, 0x23, 0x20)],
-            &[(7, 0x22, 0x7F), (8, 0x2A, 0)],
-            &[(0, 0x2B, 0), (15, 0x2A, 0), (227, 0x22, 0xF0)],
-            &[(0, 0x2A, 0)],
+        let lines = [
+            records_of(&[(9, 0x2A, 0), (76, 0x22, 0x8F)]),
+            records_of(&[(0, 0x2A, 0), (80, 0x22, 0x10), (81, 0x23, 0x20)]),
+            records_of(&[(7, 0x22, 0x7F), (8, 0x2A, 0)]),
+            records_of(&[(0, 0x2B, 0), (15, 0x2A, 0), (227, 0x22, 0xF0)]),
+            records_of(&[(0, 0x2A, 0)]),
         ];
-        assert_eq!(half_bytes_of(M0, &lines), Some(vec![5, 8, 7, 0, 15]));
-        assert_eq!(half_bytes_of(M1, &lines), Some(vec![5, 5, 2, 0, 0]));
-        assert_eq!(half_bytes_of(M0, &[]), Some(vec![]));
+        let mut state = State::START;
+        state.objects[M0].motion = 5;
+        state.objects[M1].motion = 6;
+        assert_eq!(half_bytes(&state, &lines, M0), [5, 8, 7, 0, 15]);
+        assert_eq!(half_bytes(&state, &lines, M1), [6, 6, 2, 0, 0]);
+        assert_eq!(half_bytes(&state, &[], M0), []);
     }
 
     #[test]
@@ -361,35 +328,32 @@ mod tests {
 
     #[test]
     fn drawing_registers_are_those_of_the_paper() {
-        let changed = |registers: &Registers| {
+        let changed = |registers: &Registers| -> Vec<usize> {
             let drawing = |object| drawing_registers(registers, object);
             let start = |object| drawing_registers(&Registers::START, object);
             let objects = (0..5).filter(|&object| drawing(object) != start(object));
-            objects.collect::<Vec<usize>>()
+            objects.collect()
         };
-        let cases: [(u8, u8, &[usize]); 17] = [
-            (0x04, 0x01, &[P0, M0]),
-            (0x05, 0x01, &[P1, M1]),
-            (0x04, 0x10, &[M0]),
-            (0x05, 0x10, &[M1]),
-            (0x0A, 0x10, &[BL]),
-            (0x0A, 0xCF, &[]),
-            (0x0B, 0x08, &[P0]),
-            (0x0C, 0x08, &[P1]),
-            (0x0E, 0xFF, &[]),
-            (0x1B, 0xFF, &[P0]),
-            (0x1C, 0xFF, &[P1]),
-            (0x1D, 0x02, &[M0]),
-            (0x1E, 0x02, &[M1]),
-            (0x1F, 0x02, &[BL]),
-            (0x25, 0x01, &[P0]),
-            (0x26, 0x01, &[P1]),
-            (0x27, 0x01, &[BL]),
+        let cases: [(&[u8], u8, &[usize]); 11] = [
+            (&[0x04, 0x05], 0x01, &[P0, M0]),
+            (&[0x04, 0x05], 0x10, &[M0]),
+            (&[0x0B, 0x0C], 0x08, &[P0]),
+            (&[0x1B, 0x1C], 0xFF, &[P0]),
+            (&[0x1D, 0x1E], 0x02, &[M0]),
+            (&[0x25, 0x26], 0x01, &[P0]),
+            (&[0x0A], 0x10, &[BL]),
+            (&[0x0A], 0xCF, &[]),
+            (&[0x0E], 0xFF, &[]),
+            (&[0x1F], 0x02, &[BL]),
+            (&[0x27], 0x01, &[BL]),
         ];
-        for (address, value, objects) in cases {
-            let mut registers = Registers::START;
-            registers.set(register_at(address).unwrap(), value);
-            assert_eq!(changed(&registers), objects);
+        for (addresses, value, objects) in cases {
+            for (n, &address) in addresses.iter().enumerate() {
+                let mut registers = Registers::START;
+                registers.set(register_at(address).unwrap(), value);
+                let objects: Vec<usize> = objects.iter().map(|object| object + n).collect();
+                assert_eq!(changed(&registers), objects);
+            }
         }
         let mut old = Registers::START;
         old.grp_old[1] = 1;
@@ -417,64 +381,74 @@ mod tests {
     }
 
     #[test]
-    fn a_missile_moved_left_by_7() {
-        let run = played(missile_strobed_at(30), &[&[(0, 0x22, 0x70), (9, 0x2A, 0)]]);
-        let expected = Finding {
-            half_bytes: vec![7],
-            picture: true,
-            refused: false,
-            past_column_0: true,
-            false_claims: vec![],
-        };
-        assert_eq!(run.find(M0), Some(expected));
-        assert_eq!(run.second_quiet().buffer[3], 1 << M0);
-        assert_eq!(run.last().buffer[156], 1 << M0);
-    }
-
-    #[test]
-    fn a_refused_call_counts_for_nothing() {
-        let breach = [(0, 0x22, 0x10), (20, 0x2A, 0), (30, 0x12, 0), (40, 0x00, 0)];
-        let state = missile_strobed_at(100);
-        let lines = |breach| played(state, &[&[(0, 0x22, 0x70)], breach, &[(15, 0x2A, 0)]]);
-        let finding = lines(&breach).find(M0).unwrap();
-        assert_eq!(finding.half_bytes, [7]);
-        assert!(finding.refused && finding.false_claims.is_empty());
-        assert_eq!(lines(&breach[..3]).find(M0), None);
-    }
-
-    #[test]
-    fn the_picture_is_due_only_with_equal_drawing_registers() {
-        let cases: [(&[Writes], bool); 5] = [
-            (&[], true),
-            (&[&[(80, 0x1D, 0)]], false),
-            (&[&[(80, 0x1D, 0)], &[(9, 0x1D, 2)]], true),
-            (&[&[(80, 0x1E, 2), (90, 0x0A, 0x30)]], true),
-            (&[&[(80, 0x04, 5)]], false),
-        ];
-        for (lines, due) in cases {
-            let finding = played(missile_strobed_at(100), lines).find(M0).unwrap();
-            assert_eq!((finding.picture, finding.false_claims.len()), (due, 0));
+    fn a_missile_moved_left_right_over_the_border_and_not_at_all() {
+        for (strobe, half_byte, first, moved) in [
+            (100, 7, 36, 29),
+            (100, 15, 36, 37),
+            (100, 8, 36, 44),
+            (30, 7, 3, 156),
+            (30, 0, 3, 3),
+        ] {
+            let line = [(0, 0x22, half_byte << 4), (9, 0x2A, 0)];
+            let run = played(missile_strobed_at(strobe), &[&line]);
+            let expected = Finding {
+                half_bytes: vec![half_byte],
+                picture: true,
+                past_column_0: moved == 156,
+                ..Finding::default()
+            };
+            assert_eq!(run.find(M0), Some(expected));
+            let column = |played: &Played| first_lit(&played.buffer, M0 as u8).unwrap();
+            assert_eq!(column(run.second_quiet()), Some(first));
+            assert_eq!(column(&run.chain[23]), Some(moved));
         }
     }
 
     #[test]
-    fn motion_under_way_before_the_first_line_is_no_part_of_the_sum() {
-        let mut state = missile_strobed_at(100);
-        state.slot = 0;
-        state.objects[M0].live = true;
-        state.objects[M0].motion = 3;
-        let run = played(state, &[&[(9, 0x2A, 0)]]);
-        assert!(run.direct.is_none());
-        let finding = run.find(M0).unwrap();
-        assert_eq!(finding.half_bytes, [3]);
-        assert!(finding.picture && finding.false_claims.is_empty());
+    fn accepted_lines_alone_count_and_the_picture_is_due_with_equal_drawing_registers() {
+        let at_36 = missile_strobed_at(100);
+        let mut under_way = at_36;
+        under_way.slot = 0;
+        under_way.objects[M0].live = true;
+        under_way.objects[M0].motion = 3;
+        let breach = [(0, 0x22, 0x10), (20, 0x2A, 0), (30, 0x12, 0), (40, 0x00, 0)];
+        let refused: [Writes; 3] = [&[(0, 0x22, 0x70)], &breach, &[(15, 0x2A, 0)]];
+        let cases: [(State, &[Writes], &[u8], bool); 7] = [
+            (at_36, &[], &[], true),
+            (at_36, &[&[(80, 0x1D, 0)]], &[], false),
+            (at_36, &[&[(80, 0x1D, 0)], &[(9, 0x1D, 2)]], &[], true),
+            (at_36, &[&[(80, 0x1E, 2), (90, 0x0A, 0x30)]], &[], true),
+            (at_36, &[&[(80, 0x04, 5)]], &[], false),
+            (at_36, &refused, &[7], true),
+            (under_way, &[&[(9, 0x2A, 0)]], &[3], true),
+        ];
+        for (state, lines, half_bytes, picture) in cases {
+            let finding = played(state, lines).find(M0).unwrap();
+            assert_eq!(finding.half_bytes, half_bytes);
+            assert_eq!(
+                (finding.picture, finding.refused),
+                (picture, lines == refused)
+            );
+            assert!(finding.false_claims.is_empty());
+        }
+        assert!(played(under_way, &[]).direct.is_none());
+        assert_eq!(played(at_36, &[&breach[..3]]).find(M0), None);
     }
 
     #[test]
-    fn a_run_from_a_bad_state_or_within_a_line_is_not_checked() {
-        for h in [1, 227, 228] {
-            let state = State { h, ..State::START };
-            assert_eq!(played(state, &[]).find(M0), None);
+    fn a_run_of_no_calls_is_checked_but_none_from_a_bad_state_or_within_a_line() {
+        for (h, checked) in [(0, true), (1, false), (227, false), (228, false)] {
+            let state = State {
+                h,
+                ..missile_strobed_at(100)
+            };
+            let calls = vec![];
+            let finding = PlayedRun::new(0, &RunCase { state, calls }).find(M0);
+            let expected = Finding {
+                picture: true,
+                ..Finding::default()
+            };
+            assert_eq!(finding, Some(expected).filter(|_| checked));
         }
     }
 

@@ -14,21 +14,14 @@ const COUNT_BYTES: usize = 4;
 /// 684 bytes is still one that the line call refuses.
 const MOST_INPUT_BYTES: usize = COUNT_BYTES + MOST_BYTES + 3;
 
-/// Writes the buffer after the calls that the input asks for. A read error counts as the end of the
-/// input; ends early with the first write error.
+/// Writes the buffer after the calls that the input asks for: a count in four bytes, the highest
+/// first, then a write list; an input of fewer bytes asks for none. A read error counts as the end
+/// of the input; ends early with the first write error.
 pub fn write(input: &mut dyn Read, out: &mut dyn Write) -> io::Result<()> {
-    let bytes = bytes_of_input(input, MOST_INPUT_BYTES);
-    let (count, list) = count_and_list(&bytes);
-    out.write_all(&repeat_line(count, list))
-}
-
-/// The parts of an input: a count in four bytes, the highest first, then a write list. An input of
-/// fewer bytes is the count 0 and an empty list.
-fn count_and_list(input: &[u8]) -> (u32, &[u8]) {
-    match *input {
-        [a, b, c, d, ref list @ ..] => (u32::from_be_bytes([a, b, c, d]), list),
-        _ => (0, &[]),
-    }
+    out.write_all(&match bytes_of_input(input, MOST_INPUT_BYTES)[..] {
+        [a, b, c, d, ref list @ ..] => repeat_line(u32::from_be_bytes([a, b, c, d]), list),
+        _ => repeat_line(0, &[]),
+    })
 }
 
 /// The buffer, at first zeros, after so many line calls with one list: the first on the start
@@ -46,49 +39,37 @@ fn repeat_line(count: u32, list: &[u8]) -> [u8; COLUMNS] {
 mod tests {
     use super::*;
 
-    /// Playfield lit, missile 0 enabled and moved eight columns right by HMOVE in every line.
-    const MOVING: [u8; 15] = [
-        0, 0x1D, 2, 1, 0x22, 0x80, 9, 0x2A, 0, 70, 0x0E, 0x81, 100, 0x0F, 3,
-    ];
-
-    /// What is written for an input of this count and this list.
-    fn written(count: u32, list: &[u8]) -> Vec<u8> {
-        let input = [&count.to_be_bytes()[..], list].concat();
+    /// What is written for an input of these bytes of the count and this list.
+    fn written(count: &[u8], list: &[u8]) -> Vec<u8> {
+        let input = [count, list].concat();
         let mut out = Vec::new();
         write(&mut &input[..], &mut out).unwrap();
         out
     }
 
+    // Missile 0 is enabled and moved eight columns right in each line: 152 pulses. From the second
+    // line on it passes position 0 in column 8 n - 1 and is lit four columns later.
     #[test]
     fn calls_are_a_chain_from_the_start_state() {
-        let mut buffers = [[0; 160]; 3];
-        let mut state = State::START;
-        for (count, buffer) in (1..).zip(&mut buffers) {
-            let answer = line(&state, &MOVING, buffer);
-            state = answer.state;
-            assert_eq!(answer.number, 0);
-            assert_eq!(written(count, &MOVING), *buffer);
-        }
-        assert!(buffers[0] != buffers[1] && buffers[1] != buffers[2]);
-        assert_eq!(written(0, &MOVING), [0; 160]);
-        assert_ne!(written(258, &MOVING), written(2, &MOVING));
+        let moving = [0, 0x1D, 2, 1, 0x22, 0x80, 9, 0x2A, 0];
+        let lit = |count: [u8; 4]| written(&count, &moving).iter().position(|byte| *byte == 4);
+        let columns = [[0, 0, 0, 1], [0, 0, 0, 2], [0, 0, 0, 3], [0, 0, 1, 2]].map(lit);
+        assert_eq!(
+            columns,
+            [None, Some(19), Some(27), Some((8 * 258 + 3) % 160)]
+        );
     }
 
     #[test]
-    fn refused_calls_leave_zeros() {
+    fn refused_calls_and_inputs_of_fewer_than_four_bytes_leave_zeros() {
         let longest: Vec<u8> = (0..228).flat_map(|clock| [clock, 0x0E, 255]).collect();
-        assert_ne!(written(1, &longest), [0; 160]);
+        assert_ne!(written(&[0, 0, 0, 1], &longest), [0; 160]);
         for more in [&[9][..], &[9, 0, 0], &[0; 7], &[0; 100_000]] {
-            assert_eq!(written(2, &[&longest[..], more].concat()), [0; 160]);
+            let list = [&longest[..], more].concat();
+            assert_eq!(written(&[0, 0, 0, 2], &list), [0; 160]);
         }
-        assert_eq!(written(5, &[0, 0x0D, 255, 9, 0, 0]), [0; 160]);
-    }
-
-    #[test]
-    fn fewer_than_four_bytes_are_no_call() {
-        assert_eq!(count_and_list(&[0, 0, 0, 7, 8, 9]), (7, &[8, 9][..]));
-        for length in 0..4 {
-            assert_eq!(count_and_list(&vec![255; length]), (0, &[][..]));
+        for length in 0..=4 {
+            assert_eq!(written(&vec![0; length], &[]), [0; 160]);
         }
     }
 }

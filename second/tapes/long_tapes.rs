@@ -24,7 +24,7 @@ const TAPES: [(&str, &[u8], bool, &[u8]); 8] = [
 ];
 
 /// The tapes of empty lines, then those of about 65,536 bytes, then longer ones.
-pub fn tapes(random: &mut Random) -> Tapes {
+pub fn tapes(random: &Random) -> Tapes {
     let mut tapes = Tapes::new();
     for lines in [1, 2, 10, 11, 100, 101, 1000] {
         let tape = tape_of(&vec![vec![]; lines]);
@@ -48,7 +48,7 @@ pub fn tapes(random: &mut Random) -> Tapes {
 
 /// A good tape of exactly so many bytes: lines most of which have writes, if asked for; then one of
 /// one write if the bytes left are odd in number; then empty lines.
-fn good_tape(random: &mut Random, writes: bool, length: usize) -> Vec<u8> {
+fn good_tape(random: &Random, writes: bool, length: usize) -> Vec<u8> {
     let mut tape = tape_of(&[]);
     let mut full = !writes;
     while !full {
@@ -66,48 +66,4 @@ fn good_tape(random: &mut Random, writes: bool, length: usize) -> Vec<u8> {
         add_line(&mut tape, &[]);
     }
     tape
-}
-
-#[cfg(test)]
-mod tests {
-    use super::*;
-    use crate::cases::build_tapes::line_places;
-    use crate::model::line_faults::line_faults;
-    use crate::model::state::State;
-    use crate::model::tape::{read, stretch};
-
-    /// The number of lines that reading finds, and the refusals of these lines and of reading after
-    /// them.
-    fn walked(tape: &[u8]) -> (usize, Vec<u8>) {
-        let places = line_places(tape);
-        let mut refusals = Vec::new();
-        let mut after = 1;
-        for &place in &places {
-            let list = stretch(tape, place);
-            refusals.extend(line_faults(&State::START, list, 160));
-            after = place + 2 + list.len() as u64;
-        }
-        refusals.extend(read(tape, after).err());
-        let numbers = refusals.iter().map(|refusal| refusal.number);
-        (places.len(), numbers.collect())
-    }
-
-    #[test]
-    fn each_tape_has_the_length_in_its_name_and_the_fault_meant() {
-        for (name, tape) in tapes(&mut Random::new(92)) {
-            let (length, kind) = name.split_once("_bytes_").unwrap_or(("", "empty_lines"));
-            assert!(length.is_empty() || length == tape.len().to_string());
-            let (lines, refusals) = walked(&tape);
-            let (most, expected): (bool, &[u8]) = match kind {
-                "empty_lines" => (lines + 2 >= tape.len() / 2, &[]),
-                "with_writes" => (lines > 500, &[]),
-                "version_0" | "of_255" => (lines == 0, &[8]),
-                "lone_length_byte" | "cut_last_line" => (lines > 500, &[9]),
-                "bad_length_first_line" => (lines == 0, &[4]),
-                "bad_length_last_line" => (lines > 500, &[4]),
-                _ => (lines > 500, &[7]),
-            };
-            assert!(most && refusals == expected, "{}", name);
-        }
-    }
 }

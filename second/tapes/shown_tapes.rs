@@ -2,8 +2,7 @@
 //! digits, latches, and motion that goes on in the next line.
 
 use crate::cases::bench::checks;
-use crate::cases::build_lists::records_of;
-use crate::cases::build_lists::{address_of, playfield_register};
+use crate::cases::build_lists::{address_of, playfield_register, records_of};
 use crate::cases::build_tapes::tape_of_lines;
 use crate::model::latches::PAIRS;
 use crate::model::object::{BL, M0, M1, NAMES, P0, P1, PF};
@@ -27,45 +26,42 @@ pub fn tapes() -> Tapes {
     for check in checks() {
         tapes.push((format!("bench_{}", check.name), check.tape()));
     }
-    let mut add = |name: String, lines: Vec<Writes>| {
-        let lines: Vec<_> = lines.iter().map(|line| records_of(line)).collect();
-        tapes.push((name, tape_of_lines(&lines)));
+    let mut add = |name: &str, lines: &[Writes]| {
+        tapes.push((name.to_string(), tape_of_writes(lines)));
     };
-    for object in 0..6 {
-        let name = format!("columns_of_{}", lower_case(object));
-        add(name, lines_by_column(object));
+    let names = NAMES.map(str::to_lowercase);
+    for (object, name) in names.iter().enumerate() {
+        add(&format!("columns_of_{name}"), &lines_by_column(object));
     }
     for copies in 0..8 {
-        add(format!("copies_{}", copies), lines_with_copies(copies));
+        add(&format!("copies_{copies}"), &lines_with_copies(copies));
     }
     for hmove in LATE_HMOVES {
-        add(format!("late_hmove_at_{}", hmove), lines_with_hmove(hmove));
+        add(&format!("late_hmove_at_{hmove}"), &lines_with_hmove(hmove));
     }
     let all = overlapping(&[P0, P1, M0, M1, BL, PF]);
-    add("latches_all_set".into(), vec![all.clone(), vec![]]);
+    add("latches_all_set", &[all.clone(), vec![]]);
     for (first, second) in PAIRS {
-        let name = format!("latch_{}_{}_alone", lower_case(first), lower_case(second));
-        add(name, vec![overlapping(&[first, second]), vec![]]);
+        let name = format!("latch_{}_{}_alone", names[first], names[second]);
+        add(&name, &[overlapping(&[first, second]), vec![]]);
     }
     for clock in 108..=116 {
-        let name = format!("latches_after_cxclr_at_{}", clock);
-        add(name, vec![all.clone(), vec![(clock, 0x2C, 0)]]);
+        let name = format!("latches_after_cxclr_at_{clock}");
+        add(&name, &[all.clone(), vec![(clock, 0x2C, 0)]]);
     }
     // Missile 0 at column 3 over a playfield that is lit in columns 0 to 7 alone.
     let strobe = vec![(0, 0x1D, 2), (30, 0x12, 0)];
     let shown = vec![(0, 0x0D, 0x30), (80, 0x0D, 0)];
     let blank = vec![(0, 0x0D, 0x30), (9, 0x2A, 0), (80, 0x0D, 0)];
-    add(
-        "latch_in_columns_0_to_7".into(),
-        vec![strobe.clone(), shown],
-    );
-    add("no_latch_in_blank_columns".into(), vec![strobe, blank]);
+    add("latch_in_columns_0_to_7", &[strobe.clone(), shown]);
+    add("no_latch_in_blank_columns", &[strobe, blank]);
     tapes
 }
 
-/// The name of an object in lower case.
-fn lower_case(object: usize) -> String {
-    NAMES[object].to_lowercase()
+/// The tape of lines with these writes.
+fn tape_of_writes(lines: &[Writes]) -> Vec<u8> {
+    let lines: Vec<_> = lines.iter().map(|line| records_of(line)).collect();
+    tape_of_lines(&lines)
 }
 
 /// The writes, early in a line, that make an object show, eight columns wide or one; for the
@@ -117,12 +113,13 @@ fn lines_by_column(object: usize) -> Vec<Writes> {
 /// Player and missile 0 with these copies: the strobes, two lines that show them, and two with the
 /// player reflected and its graphic delayed.
 fn lines_with_copies(copies: u8) -> Vec<Writes> {
-    let mut strobes = vec![
+    let strobes = vec![
         (0, 0x1B, 0b0010_0110),
         (1, 0x1D, 2),
         (2, 0x04, 0x10 | copies),
+        strobe(P0, STROBE),
+        strobe(M0, STROBE + 1),
     ];
-    strobes.extend([strobe(P0, STROBE), strobe(M0, STROBE + 1)]);
     let reflected = vec![(0, 0x0B, 8), (1, 0x1B, 0b0001_1110)];
     vec![strobes, vec![], vec![], reflected, vec![(0, 0x25, 1)]]
 }
@@ -140,12 +137,13 @@ fn lines_with_hmove(hmove: u8) -> Vec<Writes> {
 /// A line that makes these objects show, wide, and strobes them on clocks next to each other, so
 /// that all of them are lit together in the next line.
 fn overlapping(objects: &[usize]) -> Writes {
-    let shown = objects
-        .iter()
-        .flat_map(|&object| showing_writes(object, true));
-    let movable = objects.iter().filter(|&&object| object != PF);
-    let strobes = movable.map(|&object| strobe(object, STROBE + object as u8));
-    let mut line: Writes = shown.chain(strobes).collect();
+    let mut line = Writes::new();
+    for &object in objects {
+        line.extend(showing_writes(object, true));
+        if object != PF {
+            line.push(strobe(object, STROBE + object as u8));
+        }
+    }
     line.sort_unstable();
     line
 }
@@ -153,74 +151,22 @@ fn overlapping(objects: &[usize]) -> Writes {
 #[cfg(test)]
 mod tests {
     use super::*;
-    use crate::model::listing::listing;
+    use crate::model::first_lit::first_lit;
     use crate::model::replay::replay;
-    use crate::model::state::NO_MOTION;
-    use std::collections::HashSet;
-
-    /// The tape with this name.
-    fn named(name: &str) -> Vec<u8> {
-        let tape = tapes().into_iter().find(|tape| tape.0 == name);
-        tape.unwrap().1
-    }
-
-    /// The listing of the tape with this name, line by line.
-    fn listed(name: &str) -> Vec<String> {
-        let text = listing(&named(name));
-        text.lines().map(String::from).collect()
-    }
-
-    /// The last line of a listing.
-    fn latches(name: &str) -> String {
-        listed(name).pop().unwrap()
-    }
 
     #[test]
-    fn objects_are_first_lit_in_the_columns_meant() {
+    fn objects_are_first_lit_in_the_columns_meant_and_pairs_latched_alone() {
         for object in [P0, P1, M0, M1, BL, PF] {
-            let rows = listed(&format!("columns_of_{}", lower_case(object)));
-            for (n, expected) in COLUMNS.iter().enumerate() {
-                let row = if object == PF { n } else { 3 * n + 2 };
-                let column = rows[row + 1].split(' ').nth(object + 1);
-                assert_eq!(column, Some(expected.to_string().as_str()));
-            }
+            let lines = replay(&tape_of_writes(&lines_by_column(object))).lines;
+            let (skipped, step) = if object == PF { (0, 1) } else { (2, 3) };
+            let shown = lines.iter().skip(skipped).step_by(step);
+            let columns = shown.map(|bytes| first_lit(bytes, object as u8).unwrap().unwrap());
+            assert!(columns.eq(COLUMNS.map(usize::from)));
         }
-    }
-
-    #[test]
-    fn all_latches_each_alone_and_none() {
-        let none = "cx 00 00 00 00 00 00 00 00";
-        assert_eq!(latches("latches_all_set"), "cx C0 C0 C0 C0 C0 C0 80 C0");
-        let alone = |(first, second)| {
-            let text = latches(&format!(
-                "latch_{}_{}_alone",
-                lower_case(first),
-                lower_case(second)
-            ));
-            assert_eq!(text.replace("cx", "").replace(" 00", "").len(), 3);
-            text
-        };
-        assert_eq!(
-            PAIRS.into_iter().map(alone).collect::<HashSet<_>>().len(),
-            15
-        );
-        let after_cxclr = |clock| latches(&format!("latches_after_cxclr_at_{}", clock));
-        assert!((108..=116).map(after_cxclr).collect::<HashSet<_>>().len() >= 4);
-        assert_eq!(after_cxclr(116), none);
-        assert_eq!(latches("no_latch_in_blank_columns"), none);
-        assert_eq!(
-            latches("latch_in_columns_0_to_7"),
-            "cx 00 00 00 00 80 00 00 00"
-        );
-    }
-
-    #[test]
-    fn motion_goes_on_in_the_next_line() {
-        for hmove in LATE_HMOVES {
-            let mut tape = named(&format!("late_hmove_at_{}", hmove));
-            assert_eq!(replay(&tape).end.unwrap().slot, NO_MOTION);
-            tape.truncate(tape.len() - 4);
-            assert_eq!(replay(&tape).end.unwrap().slot < NO_MOTION, hmove > 163);
+        for (n, (first, second)) in PAIRS.into_iter().enumerate() {
+            let tape = tape_of_writes(&[overlapping(&[first, second]), vec![]]);
+            let latches = replay(&tape).end.unwrap().latches;
+            assert!((0..15).all(|latch| latches[latch] == (latch == n)));
         }
     }
 }

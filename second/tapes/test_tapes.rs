@@ -23,14 +23,14 @@ pub type Tapes = Vec<(String, Vec<u8>)>;
 /// Every test tape.
 fn all() -> Tapes {
     let mut tapes = shown_tapes::tapes();
-    tapes.extend(refused_tapes::tapes(&mut Random::new(REFUSED_SEED)));
-    tapes.extend(long_tapes::tapes(&mut Random::new(LONG_SEED)));
-    tapes.extend(random_tapes(&mut Random::new(RANDOM_SEED)));
+    tapes.extend(refused_tapes::tapes(&Random::new(REFUSED_SEED)));
+    tapes.extend(long_tapes::tapes(&Random::new(LONG_SEED)));
+    tapes.extend(random_tapes(&Random::new(RANDOM_SEED)));
     tapes
 }
 
 /// Random tapes, by turns a good one and one that is damaged in some way.
-fn random_tapes(random: &mut Random) -> Tapes {
+fn random_tapes(random: &Random) -> Tapes {
     let mut tapes = Tapes::new();
     for (damaged, damage) in DAMAGES.repeat(RANDOM_OF_EACH) {
         let good = tape_of(&showing_lists(random));
@@ -57,52 +57,69 @@ pub fn write_into(folder: &Path) -> Result<(), Failure> {
 #[cfg(test)]
 mod tests {
     use super::*;
-    use crate::model::replay::replay;
+    use crate::model::line_faults::line_faults;
+    use crate::model::state::State;
+    use crate::model::tape::{read, Reading, FIRST_PLACE};
     use std::collections::HashSet;
-    use std::{env, process};
 
-    #[test]
-    fn good_tapes_are_good_and_every_refusal_comes_among_the_random_ones() {
-        let mut refused = [0; 10];
-        for (name, tape) in random_tapes(&mut Random::new(RANDOM_SEED)) {
-            let number = replay(&tape)
-                .end
-                .map_or_else(|refusal| refusal.number, |_| 0);
-            assert!(number == 0 || !name.ends_with("_good"), "{}", name);
-            refused[usize::from(number)] += 1;
-        }
-        assert!(
-            refused[4..].iter().all(|&times| times >= 3),
-            "{:?}",
-            refused
-        );
-        assert!(refused[0] >= 99);
-    }
+    /// The refusal that a part of a tape's name tells: number, line, record, or the number alone. The
+    /// first part that a name has decides; tapes with none of them are good.
+    const REFUSALS: [(&str, &str); 18] = [
+        ("refused_4_last_line", "4 6 0"),
+        ("refused_4_also_cut_length_5_after_12", "4 12 0"),
+        ("refused_5_last_line_record_7", "5 6 7"),
+        ("refused_6_middle_line_record_1", "6 3 1"),
+        ("refused_7_record_227", "7 2 227"),
+        ("refused_9_684_cut_by_1_after_1_lines", "9 1 0"),
+        ("refused_4", "4 "),
+        ("refused_5", "5 "),
+        ("refused_6", "6 "),
+        ("refused_7", "7 "),
+        ("refused_8", "8 0 0"),
+        ("refused_9", "9 "),
+        ("_bytes_bad_length", "4 "),
+        ("_bytes_unknown_register", "7 "),
+        ("_bytes_version_0", "8 0 0"),
+        ("_bytes_of_255", "8 0 0"),
+        ("_bytes_lone_length_byte", "9 "),
+        ("_bytes_cut_last_line", "9 "),
+    ];
 
-    #[test]
-    fn every_tape_is_a_file_of_its_own_in_the_folder() {
-        let folder = env::temp_dir().join(format!("second_tapes_{}", process::id()));
-        fs::create_dir(&folder).unwrap();
-        let written = write_into(&folder);
-        let tapes = all();
-        let as_written = |(name, tape): &&(String, Vec<u8>)| {
-            let file = folder.join(format!("{}.tape", name));
-            fs::read(file).map_or(false, |bytes| bytes == *tape)
-        };
-        let files = tapes.iter().filter(as_written).count();
-        fs::remove_dir_all(&folder).unwrap();
-        assert_eq!((written, files), (Ok(()), tapes.len()));
-        let names: HashSet<&String> = tapes.iter().map(|(name, _)| name).collect();
-        assert_eq!(names.len(), tapes.len());
-    }
-
-    #[test]
-    fn a_folder_that_cannot_be_written_is_named() {
-        match write_into(Path::new("/no/such/folder")) {
-            Err(Failure::Named(text)) => {
-                assert!(text.starts_with("cannot write /no/such/folder/"));
+    /// The refusal of a tape: number, line, record. No line is run: what refuses it is in its own
+    /// bytes.
+    fn refusal(tape: &[u8]) -> Option<String> {
+        let mut place = FIRST_PLACE;
+        let mut line = 0;
+        while let Ok(Reading::Line { start, end }) = read(tape, place) {
+            let faults = line_faults(&State::START, &tape[start..end], 160);
+            if let Some(fault) = faults.first() {
+                return Some(format!("{} {} {}", fault.number, line, fault.record));
             }
-            other => panic!("{:?}", other),
+            place = end as u64;
+            line += 1;
+        }
+        let refused = read(tape, place).err()?;
+        Some(format!("{} {} {}", refused.number, line, refused.record))
+    }
+
+    #[test]
+    fn tapes_are_refused_as_their_names_say_and_damaged_ones_with_every_number() {
+        let tapes = all();
+        let names: HashSet<&String> = tapes.iter().map(|(name, _)| name).collect();
+        assert_eq!((tapes.len(), names.len()), (389, 389));
+        let mut damaged = Vec::new();
+        for (name, tape) in &tapes {
+            let refusal = refusal(tape).unwrap_or_default();
+            if name.starts_with("random_") && !name.ends_with("_good") {
+                damaged.extend(refusal.chars().next());
+                continue;
+            }
+            let row = REFUSALS.iter().find(|row| name.contains(row.0));
+            assert_eq!(refusal.is_empty(), row.is_none(), "{name}");
+            assert!(refusal.starts_with(row.map_or("", |row| row.1)), "{name}");
+        }
+        for number in '4'..='9' {
+            assert!(damaged.iter().filter(|each| **each == number).count() >= 3);
         }
     }
 }

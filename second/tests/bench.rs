@@ -1,28 +1,11 @@
 //! The bench checks of the paper that concern lines, as `cases/bench.rs` has them: what each shows.
-//! Those of the counter, the extra pulses and the listing stand with these subjects.
+//! Those of the counter, the extra pulses and the listing stand with these subjects, and so do the
+//! slips that the paper has seen, but for that of the half byte.
 
-use crate::cases::bench::{checks, PRINTED_TAPE};
-use crate::cases::build_lists::list_of;
+use crate::cases::bench::PRINTED_TAPE;
 use crate::model::latches::read_out;
-use crate::tests::playing::{blank, columns, play, span, Played};
-
-const P0: u8 = 0;
-const M0: u8 = 2;
-const BL: u8 = 4;
-const PF: u8 = 5;
-
-/// The lines of the check with this name, played.
-fn played(name: &str) -> Vec<Played> {
-    let check = checks().into_iter().find(|check| check.name == name);
-    let lines = check.unwrap_or_else(|| panic!("no check {}", name)).lines;
-    let lists: Vec<Vec<u8>> = lines.iter().map(|line| list_of(line)).collect();
-    play(&lists)
-}
-
-/// No column.
-fn none() -> Vec<usize> {
-    Vec::new()
-}
+use crate::model::object::{BL, M0, P0, PF};
+use crate::tests::playing::{blank, check, columns, play, play_check, span};
 
 // "Missile 0 enabled, strobed at clock 30: the next line lights column 3. At clock 100: column 36.
 // Ball enabled at 0, strobed at 100: column 36 on that same line. Player 0, graphic 255 written at
@@ -35,18 +18,21 @@ fn strobes_copies_and_blank_columns_show_their_columns() {
     let left_lit = [span(8, 15), span(80, 95)].concat();
     let lit = [span(0, 15), span(80, 95)].concat();
     let cases = [
-        ("missile_strobed_at_30", M0, vec![none(), vec![3]]),
-        ("missile_strobed_at_100", M0, vec![none(), vec![36]]),
+        ("missile_strobed_at_30", M0, vec![vec![], vec![3]]),
+        ("missile_strobed_at_100", M0, vec![vec![], vec![36]]),
         ("ball_strobed_at_100", BL, vec![vec![36]]),
-        ("player_strobed_at_100", P0, vec![none(), span(37, 44)]),
+        ("player_strobed_at_100", P0, vec![vec![], span(37, 44)]),
         ("copies_3_after_strobe", P0, vec![copies, with_main]),
         ("hmove_at_9_blank_columns", PF, vec![left_lit, lit]),
     ];
     for (name, object, expected) in cases {
-        assert_eq!(columns(&played(name), object), expected, "{}", name);
+        let played = play_check(&check(name));
+        assert_eq!(columns(&played, object), expected, "{name}");
+        if object == PF {
+            assert_eq!(blank(&played), [span(0, 7), vec![]]);
+        }
     }
-    let blanked = blank(&played("hmove_at_9_blank_columns"));
-    assert_eq!(blanked, [span(0, 7), none()]);
+    assert_eq!(check("printed_tape").tape(), PRINTED_TAPE);
 }
 
 // "Missile at column 36, HMOVE at 9: half bytes 7, 15, 8 give 29, 37, 44. At column 3, 7 gives 156.
@@ -55,27 +41,50 @@ fn strobes_copies_and_blank_columns_show_their_columns() {
 #[test]
 fn hmove_moves_the_missile() {
     let cases = [
-        (36, 9, 7, 29),
-        (36, 9, 15, 37),
-        (36, 9, 8, 44),
-        (3, 9, 7, 156),
-        (36, 15, 7, 29),
-        (36, 16, 7, 30),
-        (36, 67, 0, 42),
-        (36, 68, 0, 36),
-        (36, 227, 0, 28),
+        ("missile_at_36_hmove_at_9_half_byte_7", 36, 29),
+        ("missile_at_36_hmove_at_9_half_byte_15", 36, 37),
+        ("missile_at_36_hmove_at_9_half_byte_8", 36, 44),
+        ("missile_at_3_hmove_at_9_half_byte_7", 3, 156),
+        ("missile_at_36_hmove_at_15_half_byte_7", 36, 29),
+        ("missile_at_36_hmove_at_16_half_byte_7", 36, 30),
+        ("missile_at_36_hmove_at_67_half_byte_0", 36, 42),
+        ("missile_at_36_hmove_at_68_half_byte_0", 36, 36),
+        ("missile_at_36_hmove_at_227_half_byte_0", 36, 28),
     ];
-    for (from, hmove, half_byte, column) in cases {
-        let name = format!(
-            "missile_at_{}_hmove_at_{}_half_byte_{}",
-            from, hmove, half_byte
-        );
-        let played = played(&name);
+    for (name, from, to) in cases {
+        let played = play_check(&check(name));
         let shown = columns(&played, M0);
-        assert_eq!(shown[1], [from], "{}", name);
-        assert_eq!(shown[3..], [[column], [column]], "{}", name);
-        let first = if hmove < 68 { span(0, 7) } else { none() };
-        assert_eq!(blank(&played)[2..], [first, none(), none()], "{}", name);
+        assert_eq!(shown[1], [from], "{name}");
+        assert_eq!(shown[3..], [[to], [to]], "{name}");
+        let late = !name.contains("_at_68_") && !name.contains("_at_227_");
+        let first = if late { span(0, 7) } else { vec![] };
+        assert_eq!(blank(&played)[2..], [first, vec![], vec![]], "{name}");
+    }
+}
+
+// Slip: "The half byte read as 0 to 15, or its remainder modulo 160 taken before the sign is put
+// back." Slip: "An extra pulse added to a visible pulse."
+#[test]
+fn half_bytes_8_to_15_move_right_columns_go_round_and_visible_clocks_move_nothing() {
+    // HMOVE's clock, the half byte, the number of lines with both, the column after them.
+    let mut rows = vec![
+        (9, 7, 6, 154),  // 36 - 42 = -6
+        (9, 7, 30, 146), // 36 - 210 = -174
+        (9, 8, 16, 4),   // 36 + 128 = 164
+        (9, 8, 30, 116), // 36 + 240 = 276
+        (9, 15, 123, 159),
+        (9, 15, 124, 0),
+        (9, 1, 36, 0),
+        (9, 1, 37, 159),
+    ];
+    rows.extend((0..8).map(|value| (9, value, 1, 36 - usize::from(value))));
+    rows.extend((8..16).map(|value| (9, value, 1, 52 - usize::from(value))));
+    rows.extend((68..=163).flat_map(|hmove| [0, 7, 8, 15].map(|value| (hmove, value, 1, 36))));
+    for (hmove, half_byte, times, column) in rows {
+        let mut lists = vec![vec![0, 0x1D, 2, 100, 0x12, 0]];
+        lists.extend(vec![vec![0, 0x22, half_byte << 4, hmove, 0x2A, 0]; times]);
+        lists.extend([vec![], vec![]]);
+        assert_eq!(columns(&play(&lists), M0)[times + 2], [column]);
     }
 }
 
@@ -88,19 +97,10 @@ fn cxclr_with_an_overlap_leaves_that_pair_latched() {
         ("cxclr_at_105_after_overlap", 0x00),
     ];
     for (name, fifth) in cases {
-        let played = played(name);
+        let played = play_check(&check(name));
         assert_eq!(columns(&played, M0)[1], [36]);
         assert!(columns(&played, PF)[1].contains(&36));
         let bytes = read_out(&played[1].state);
         assert_eq!(bytes, Ok([0, 0, 0, 0, fifth, 0, 0, 0]));
     }
-}
-
-// The tape that the paper prints is that of its check.
-#[test]
-fn the_printed_tape_is_a_check() {
-    let printed = checks()
-        .into_iter()
-        .find(|check| check.name == "printed_tape");
-    assert_eq!(printed.unwrap().tape(), PRINTED_TAPE);
 }

@@ -1,6 +1,6 @@
 //! Tests of one clock: refusals 1 and 7, then the steps in their order.
 
-use crate::model::clock::{clock, Answer};
+use crate::model::clock::clock;
 use crate::model::latches::PAIRS;
 use crate::model::object::{BL, M0, M1, P0, P1, PF};
 use crate::model::registers::register_at;
@@ -11,11 +11,6 @@ const HMOVE: u8 = 0x2A;
 const HMCLR: u8 = 0x2B;
 const CXCLR: u8 = 0x2C;
 
-/// The start state at clock h with the late flag as given.
-fn late_at(h: u8, late: bool) -> State {
-    State { late, ..at(h) }
-}
-
 /// The start state at clock h with this slot and one object live with this motion value.
 fn moving_at(h: u8, slot: u8, object: usize, motion: u8) -> State {
     let mut state = State { slot, ..at(h) };
@@ -24,14 +19,19 @@ fn moving_at(h: u8, slot: u8, object: usize, motion: u8) -> State {
     state
 }
 
+/// A state with all objects at this position and age.
+fn placed(mut state: State, position: u8, age: u8) -> State {
+    for object in &mut state.objects {
+        object.position = position;
+        object.age = age;
+    }
+    state
+}
+
 /// A state at clock h whose next clock, pulsed or not, lights all objects and the playfield.
 fn all_lit(h: u8, late: bool) -> State {
-    let mut state = late_at(h, late);
-    for object in &mut state.objects {
-        object.position = 100;
-        object.age = 6;
-    }
-    state.registers.grp_new = [255; 2];
+    let mut state = placed(State { late, ..at(h) }, 100, 6);
+    state.registers.grp_new = [0b1111_1001; 2];
     state.registers.enam = [true; 2];
     state.registers.enabl_new = true;
     state.registers.width_codes = [3; 2];
@@ -45,30 +45,30 @@ fn all_lit(h: u8, late: bool) -> State {
 // 1 before 7. A refusal "returns the given state ...; every other part of the answer is zero".
 #[test]
 fn a_bad_state_is_refused_before_an_unknown_register() {
-    let refused = |number: u8, state: State| Answer {
-        number,
-        record: 0,
-        byte: 0,
-        state,
+    let answer = |state: &State, write| {
+        let answer = clock(state, write);
+        (answer.number, answer.record, answer.byte, answer.state)
     };
-    let good = late_at(0, true);
-    let mut bad = good;
-    bad.objects[P1].age = 200;
-    assert_eq!(clock(&bad, None), refused(1, bad));
+    let good = all_lit(0, true);
+    let bad = State { slot: 17, ..good };
+    assert_eq!(answer(&bad, None), (1, 0, 0, bad));
     for address in 0..=255 {
-        assert_eq!(clock(&bad, to(address, 9)), refused(1, bad));
-        let answer = clock(&good, to(address, 255));
+        assert_eq!(answer(&bad, to(address, 9)), (1, 0, 0, bad));
+        let answer = answer(&good, to(address, 255));
         match register_at(address) {
-            Some(_) => assert_eq!((answer.number, answer.byte), (0, 128)),
-            None => assert_eq!(answer, refused(7, good)),
+            Some(_) => assert_eq!((answer.0, answer.1, answer.2), (0, 0, 128)),
+            None => assert_eq!(answer, (7, 0, 0, good)),
         }
     }
 }
 
-// Step 1: "If h = 0 the late flag falls." Step 2: HMOVE "at clocks 0 to 67 raises the late flag".
-// Step 3: "h below 68, or below 76 with the late flag". Step 11: "227 going to 0".
+// Step 1: "If h = 0 the late flag falls." Step 2: HMOVE "at clocks 0 to 67 raises the late flag";
+// settled: later it neither raises nor lowers it. Step 3: "h below 68, or below 76 with the late
+// flag". Step 10: "128 for h below 68; 64 for a blank column; otherwise bits 0 to 5 ... In an
+// unblanked column every pair lit together sets its latch"; slip: "Latches set under the eight
+// blanked columns." Step 11: "227 going to 0".
 #[test]
-fn late_flag_and_blank_and_h_at_every_clock() {
+fn late_flag_blank_answer_byte_latches_and_h_at_every_clock() {
     for h in 0..228 {
         for (late, write, late_after, blank) in [
             (false, None, false, h < 68),
@@ -77,9 +77,12 @@ fn late_flag_and_blank_and_h_at_every_clock() {
             (false, to(HMOVE, 0), h < 68, h < 68),
             (true, to(HMOVE, 0), true, h < 76),
         ] {
-            let done = done(&late_at(h, late), write);
+            let done = done(&all_lit(h, late), write);
             assert_eq!((done.state.late, done.blank), (late_after, blank));
             assert_eq!(done.state.h, (h + 1) % 228);
+            let of_column = if blank { 64 } else { 63 };
+            assert_eq!(done.byte, if h < 68 { 128 } else { of_column });
+            assert_eq!(done.state.latches, [!blank; 15]);
         }
     }
 }
@@ -88,18 +91,16 @@ fn late_flag_and_blank_and_h_at_every_clock() {
 // the slot is below 16, h is a multiple of 4 and HMOVE was not written ... the slot rises by one".
 #[test]
 fn comparisons_come_at_multiples_of_4_with_a_slot_below_16() {
-    for h in 0..228 {
-        for slot in 0..=16 {
-            let mut state = State { slot, ..at(h) };
-            state.objects[M0].motion = 8;
-            let quiet = done(&state, None);
-            let compared = slot < 16 && h % 4 == 0;
-            assert_eq!(quiet.motion.compared, compared);
-            assert_eq!(quiet.state.slot, slot + u8::from(compared));
-            let moved = done(&state, to(HMOVE, 0));
-            assert_eq!((moved.motion.compared, moved.state.slot), (false, 0));
-            assert!(moved.state.objects.iter().all(|object| object.live));
-        }
+    for (h, slot) in (0..228).flat_map(|h| (0..=16).map(move |slot| (h, slot))) {
+        let mut state = State { slot, ..at(h) };
+        state.objects[M0].motion = 8;
+        let quiet = done(&state, None);
+        let compared = slot < 16 && h % 4 == 0;
+        assert_eq!(quiet.motion.compared, compared);
+        assert_eq!(quiet.state.slot, slot + u8::from(compared));
+        let moved = done(&state, to(HMOVE, 0));
+        assert_eq!((moved.motion.compared, moved.state.slot), (false, 0));
+        assert!(moved.state.objects.iter().all(|object| object.live));
     }
 }
 
@@ -107,16 +108,14 @@ fn comparisons_come_at_multiples_of_4_with_a_slot_below_16() {
 // pulse. Otherwise it gets an extra pulse. ... at 16 all flags fall." Others get none.
 #[test]
 fn equal_drops_the_flag_and_anything_else_pulses() {
-    for half_byte in 0..16 {
-        for slot in 0..16 {
-            let done = done(&moving_at(20, slot, M0, half_byte), None);
-            let signed = (i32::from(half_byte) + 8) % 16 - 8;
-            let equal = i32::from(slot) == 8 + signed;
-            assert_eq!(done.motion.equal[M0], equal);
-            assert_eq!(done.state.objects[M0].live, !equal && slot < 15);
-            let pulses = done.state.objects.map(|object| object.position);
-            assert_eq!(pulses, [0, 0, u8::from(!equal), 0, 0]);
-        }
+    for (half_byte, slot) in (0..16).flat_map(|n| (0..16).map(move |slot| (n, slot))) {
+        let done = done(&moving_at(20, slot, M0, half_byte), None);
+        let signed = (i32::from(half_byte) + 8) % 16 - 8;
+        let equal = i32::from(slot) == 8 + signed;
+        assert_eq!(done.motion.equal[M0], equal);
+        assert_eq!(done.state.objects[M0].live, !equal && slot < 15);
+        let pulses = done.state.objects.map(|object| object.position);
+        assert_eq!(pulses, [0, 0, u8::from(!equal), 0, 0]);
     }
 }
 
@@ -136,10 +135,8 @@ fn bench_extra_pulses() {
             state = done(&state, write).state;
         }
         let moved = state.objects[M1];
-        assert_eq!(
-            (moved.position, moved.live, state.slot),
-            (pulses, false, 16)
-        );
+        assert_eq!((moved.position, moved.live), (pulses, false));
+        assert_eq!(state.slot, 16);
     }
 }
 
@@ -155,15 +152,14 @@ fn the_value_written_on_a_comparing_clock_is_compared() {
             (8, 3, None, false),
             (8, 3, to(HMCLR, 0xFF), true),
         ] {
-            let done = done(&moving_at(12, slot, n, motion), write);
-            let motion = (done.motion.equal[n], done.motion.extra[n]);
-            assert_eq!(motion, (equal, !equal));
+            let motion = done(&moving_at(12, slot, n, motion), write).motion;
+            assert_eq!((motion.equal[n], motion.extra[n]), (equal, !equal));
         }
     }
 }
 
-// Step 5: "An object is pulsed if the clock is not blank or it has an extra pulse; never twice." An
-// extra pulse in the blank can reach a start.
+// Step 5: "An object is pulsed if the clock is not blank or it has an extra pulse; never twice."
+// Slip: "An extra pulse added to a visible pulse." An extra pulse in the blank can reach a start.
 #[test]
 fn an_extra_pulse_moves_in_the_blank_and_is_lost_on_a_visible_clock() {
     for (h, late) in [(64, false), (68, false), (72, true), (76, true)] {
@@ -182,22 +178,16 @@ fn an_extra_pulse_moves_in_the_blank_and_is_lost_on_a_visible_clock() {
 #[test]
 fn starts_sizes_and_ages_of_every_position_and_copies() {
     let further: [&[u8]; 8] = [&[], &[16], &[32], &[16, 32], &[64], &[], &[32, 64], &[]];
-    for (copies, size) in (0..).zip([1, 1, 1, 1, 1, 2, 1, 4]) {
-        for (position, age) in
-            (0..160).flat_map(|position| [30, 62, 63, 64].map(|age| (position, age)))
-        {
-            let mut state = at(100);
-            state.registers.copies = [copies; 2];
+    let places = (0..160).flat_map(|position| [30, 62, 63, 64].map(|age| (position, age)));
+    for (position, age) in places {
+        for (copies, size) in [1, 1, 1, 1, 1, 2, 1, 4].into_iter().enumerate() {
+            let mut state = placed(at(100), position, age);
+            state.registers.copies = [copies as u8; 2];
             state.sizes = [2, 4];
-            for object in &mut state.objects {
-                object.position = position;
-                object.age = age;
-            }
             let done = done(&state, None);
             let reached = (position + 1) % 160;
             for (n, object) in done.state.objects.into_iter().enumerate() {
-                let copy = n != BL && further[usize::from(copies)].contains(&reached);
-                let start = reached == 0 || copy;
+                let start = reached == 0 || n != BL && further[copies].contains(&reached);
                 let age = if start { 0 } else { (age + 1).min(64) };
                 assert_eq!(done.started[n], start);
                 assert_eq!((object.position, object.age), (reached, age));
@@ -211,22 +201,24 @@ fn starts_sizes_and_ages_of_every_position_and_copies() {
 // Copies are those of the player's or missile's own NUSIZ, as written on this clock.
 #[test]
 fn copies_written_on_the_clock_of_a_start_count() {
-    for (n, own, other) in [(P0, 4, 5), (P1, 5, 4), (M0, 4, 5), (M1, 5, 4)] {
+    for (n, own, other, sizes) in [
+        (P0, 4, 5, [4, 1]),
+        (P1, 5, 4, [1, 4]),
+        (M0, 4, 5, [1, 1]),
+        (M1, 5, 4, [1, 1]),
+    ] {
         let mut state = at(100);
         state.objects[n].position = 63;
         assert!(done(&state, to(own, 4)).started[n]);
         assert!(!done(&state, to(other, 4)).started[n]);
         state.objects[n].position = 159;
-        let mut sizes = [1, 1];
-        if n == P0 || n == P1 {
-            sizes[n] = 4;
-        }
         assert_eq!(done(&state, to(own, 7)).state.sizes, sizes);
     }
 }
 
 // Step 7: "makes the position 0, pulse or not, and there is no start; age still follows the pulse.
-// The ball's strobe also makes its age 0."
+// The ball's strobe also makes its age 0." Slip: "A strobe treated as a start, so a player's main
+// copy shows a line early."
 #[test]
 fn a_strobe_makes_the_position_0_and_is_no_start() {
     // Clock, slot (0: with an extra pulse), age before and after.
@@ -253,40 +245,24 @@ fn a_strobe_makes_the_position_0_and_is_no_start() {
     }
 }
 
-// Steps 8 and 9: the registers "are read at this clock, after step 2".
+// Steps 8 and 9: graphic, VDEL, reflection, enable, width and playfield "are read at this clock,
+// after step 2". Step 10: "bits 0 to 5 for P0, P1, M0, M1, BL, PF"; a pair of which one is unlit
+// sets no latch.
 #[test]
-fn registers_are_read_after_the_write_of_the_clock() {
-    let mut state = at(100);
-    assert_eq!(done(&state, to(0x0E, 255)).byte, 1 << PF);
-    state.registers.enam[1] = true;
-    state.objects[M1].position = 100;
-    state.objects[M1].age = 10;
-    for (write, byte) in [(None, 0), (to(5, 0x30), 1 << M1), (to(5, 0x20), 0)] {
-        assert_eq!(done(&state, write).byte, byte);
-    }
-}
-
-// Step 10: "128 for h below 68; 64 for a blank column; otherwise bits 0 to 5 ... In an unblanked
-// column every pair lit together sets its latch."
-#[test]
-fn answer_byte_and_latches_at_every_clock() {
-    for (h, late) in (0..228).flat_map(|h| [(h, false), (h, true)]) {
-        let expected = match h {
-            0..=67 => 128,
-            68..=75 if late => 64,
-            _ => 63,
-        };
-        let done = done(&all_lit(h, late), None);
-        assert_eq!(done.byte, expected);
-        assert_eq!(done.state.latches, [expected == 63; 15]);
-    }
-}
-
-// Step 10: "bits 0 to 5 for P0, P1, M0, M1, BL, PF"; a pair of which one is unlit sets no latch.
-#[test]
-fn each_object_has_its_own_bit_and_each_pair_its_latch() {
-    for (n, address) in (0x1B..=0x1F).chain([0x0E]).enumerate() {
-        let done = done(&all_lit(100, false), to(address, 0));
+fn a_write_puts_out_its_own_object_at_once_and_no_latch_of_it_is_set() {
+    let writes = [
+        (P0, [(0x1B, 0), (0x25, 1), (0x0B, 8)]),
+        (P1, [(0x1C, 0), (0x26, 1), (0x0C, 8)]),
+        (M0, [(0x1D, 0), (0x04, 0), (0x04, 0x10)]),
+        (M1, [(0x1E, 0), (0x05, 0), (0x05, 0x10)]),
+        (BL, [(0x1F, 0), (0x27, 1), (0x0A, 0x10)]),
+        (PF, [(0x0E, 0), (0x0E, 0xF7), (0x0E, 0x07)]),
+    ];
+    for (n, (address, value)) in writes
+        .into_iter()
+        .flat_map(|(n, writes)| writes.map(|write| (n, write)))
+    {
+        let done = done(&all_lit(100, false), to(address, value));
         assert_eq!(done.byte, 63 - (1 << n));
         let latches = PAIRS.map(|(first, second)| first != n && second != n);
         assert_eq!(done.state.latches, latches);

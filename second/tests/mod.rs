@@ -1,19 +1,17 @@
 //! Tests of the model, a file for each subject; each test stands under the sentence of the paper
 //! that it holds the model to.
 
-pub mod giving;
 pub mod playing;
 
 mod bench;
 mod clock;
 mod counter;
-mod first_lit;
-mod latches;
+mod input;
 mod line;
 mod listing;
 mod lit;
+mod read_outs;
 mod registers;
 mod replay;
-mod slips;
 mod state;
 mod tape;

@@ -1,6 +1,8 @@
 //! For tests: single clocks that are accepted, lines played one after another from the start
 //! state, and what they show.
 
+use crate::cases::bench::{checks, Check};
+use crate::cases::build_lists::list_of;
 use crate::model::clock::{run, Done, RegisterWrite};
 use crate::model::first_lit::shows;
 use crate::model::line::line;
@@ -41,9 +43,21 @@ pub fn play(lists: &[Vec<u8>]) -> Vec<Played> {
     played
 }
 
+/// The bench check with this name.
+pub fn check(name: &str) -> Check {
+    let check = checks().into_iter().find(|check| check.name == name);
+    check.unwrap_or_else(|| panic!("no check {name}"))
+}
+
+/// The lines of a bench check, played.
+pub fn play_check(check: &Check) -> Vec<Played> {
+    let lists: Vec<Vec<u8>> = check.lines.iter().map(|line| list_of(line)).collect();
+    play(&lists)
+}
+
 /// The columns of each line in which an object is lit.
-pub fn columns(played: &[Played], object: u8) -> Vec<Vec<usize>> {
-    columns_with(played, |byte| shows(byte, object))
+pub fn columns(played: &[Played], object: usize) -> Vec<Vec<usize>> {
+    columns_with(played, |byte| shows(byte, object as u8))
 }
 
 /// The columns of each line that hold 64.

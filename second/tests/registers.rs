@@ -1,6 +1,6 @@
 //! Tests of the registers: "Registers (hexadecimal address)", written in single clocks.
 
-use crate::model::registers::{register_at, Register, Registers, KNOWN};
+use crate::model::registers::{register_at, Registers, KNOWN};
 use crate::model::state::State;
 use crate::tests::playing::{at, done, to};
 
@@ -22,10 +22,6 @@ fn twenty_nine_addresses_are_known() {
                     GRP0 GRP1 ENAM0 ENAM1 ENABL HMP0 HMP1 HMM0 HMM1 HMBL VDELP0 VDELP1 VDELBL \
                     HMOVE HMCLR CXCLR";
     assert_eq!(names, expected);
-    for object in 0..5 {
-        let strobe = register_at(0x10 + object as u8);
-        assert_eq!(strobe, Some(Register::Strobe(object)));
-    }
 }
 
 // The bits of each register; "Other bits are ignored and not kept", but CTRLPF's "whole byte is".
@@ -33,16 +29,13 @@ fn twenty_nine_addresses_are_known() {
 fn each_register_keeps_its_bits_and_no_others() {
     // Address, value, the bits that are ignored, and what the value sets.
     type Row = (u8, u8, u8, fn(&mut Registers));
-    let rows: [Row; 17] = [
-        (0x04, 0x37, 0xC8, |r| {
-            (r.copies[0], r.width_codes[0]) = (7, 3)
-        }),
-        (0x04, 0x14, 0xC8, |r| {
-            (r.copies[0], r.width_codes[0]) = (4, 1)
-        }),
-        (0x05, 0x25, 0xC8, |r| {
-            (r.copies[1], r.width_codes[1]) = (5, 2)
-        }),
+    let rows: [Row; 20] = [
+        (0x04, 0x07, 0xC8, |r| r.copies[0] = 7),
+        (0x04, 0x04, 0xC8, |r| r.copies[0] = 4),
+        (0x04, 0x10, 0xC8, |r| r.width_codes[0] = 1),
+        (0x04, 0x30, 0xC8, |r| r.width_codes[0] = 3),
+        (0x05, 0x05, 0xC8, |r| r.copies[1] = 5),
+        (0x05, 0x20, 0xC8, |r| r.width_codes[1] = 2),
         (0x0A, 0xA5, 0x00, |r| r.ctrlpf = 0xA5),
         (0x0B, 0x08, 0xF7, |r| r.refp[0] = true),
         (0x0C, 0x08, 0xF7, |r| r.refp[1] = true),

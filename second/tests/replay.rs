@@ -1,11 +1,10 @@
 //! Tests of playing a tape: one line at a place, and a whole tape from the start state.
 
 use crate::cases::bench::checks;
-use crate::cases::build_lists::list_of;
 use crate::cases::build_tapes::tape_of;
 use crate::model::replay::{play_line, replay};
 use crate::model::state::State;
-use crate::tests::playing::{at, play};
+use crate::tests::playing::{at, play_check};
 
 /// Asserts that playing is refused so, or finds the end if the number is 0, giving back state and
 /// buffer as they were.
@@ -22,17 +21,14 @@ fn assert_kept(given: &State, tape: &[u8], place: u64, length: usize, refusal: (
 // tape's end the state and the buffer are as given.
 #[test]
 fn reading_is_checked_before_the_line_and_the_line_in_its_order() {
-    let readings: [(&[u8], u64, u8); 11] = [
+    let readings: [(&[u8], u64, u8); 8] = [
         (&[1, 0, 3, 9, 0x2A, 0], 6, 0),
         (&[1], 1, 0),
-        (&[], 1, 8),
         (&[2, 0, 0], 1, 8),
         (&[1, 0, 0], 0, 9),
-        (&[1, 0, 0], 4, 9),
         (&[1, 0, 0], u64::MAX, 9),
         (&[1, 0], 1, 9),
         (&[1, 0, 1, 9], 1, 4),
-        (&[1, 2, 0xAF], 1, 4),
         (&[1, 0, 3, 9, 0x2A], 1, 9),
     ];
     let calls = [
@@ -61,30 +57,16 @@ fn reading_is_checked_before_the_line_and_the_line_in_its_order() {
     }
 }
 
-// A played line is the line call with the stretch; the other lines of the tape play no part.
-#[test]
-fn a_line_is_played_between_bad_ones() {
-    let list = vec![0, 0x0D, 255, 9, 0x2A, 0];
-    let tape = tape_of(&[vec![255, 0, 0], list.clone(), vec![1]]);
-    let mut buffer = [7; 160];
-    let answer = play_line(&State::START, &tape, 6, &mut buffer);
-    let by_line = &play(&[list])[0];
-    assert_eq!((answer.number, answer.record, answer.place), (0, 0, 14));
-    assert_eq!(answer.state, by_line.state);
-    assert_eq!(buffer, by_line.bytes);
-}
-
 // "Each later one ... gets the state the call before handed back": the lines of a tape from the
 // start state, one after another.
 #[test]
 fn a_replay_is_the_chain_of_its_lines_from_the_start_state() {
     for check in checks() {
-        let lists: Vec<Vec<u8>> = check.lines.iter().map(|line| list_of(line)).collect();
-        let played = play(&lists);
-        let replay = replay(&tape_of(&lists));
+        let played = play_check(&check);
+        let replay = replay(&check.tape());
         let lines: Vec<[u8; 160]> = played.iter().map(|played| played.bytes).collect();
         assert_eq!(replay.lines, lines);
-        assert_eq!(replay.end, Ok(played[played.len() - 1].state));
+        assert_eq!(replay.end.ok(), played.last().map(|played| played.state));
     }
     let none = replay(&[1]);
     assert_eq!((none.lines.len(), none.end), (0, Ok(State::START)));
