@@ -1,11 +1,10 @@
 //! The bench checks of the paper that concern lines, as `cases/bench.rs` has them: what each shows.
-//! Those of the counter, the extra pulses and the listing stand with these subjects, and so do the
-//! slips that the paper has seen, but for that of the half byte.
+//! Those of the counter, the extra pulses and the listing stand with these subjects.
 
 use crate::cases::bench::PRINTED_TAPE;
 use crate::model::latches::read_out;
 use crate::model::object::{BL, M0, P0, PF};
-use crate::tests::playing::{blank, check, columns, play, play_check, span};
+use crate::tests::playing::{blank, check, columns, play_check, span};
 
 // "Missile 0 enabled, strobed at clock 30: the next line lights column 3. At clock 100: column 36.
 // Ball enabled at 0, strobed at 100: column 36 on that same line. Player 0, graphic 255 written at
@@ -59,32 +58,6 @@ fn hmove_moves_the_missile() {
         let late = !name.contains("_at_68_") && !name.contains("_at_227_");
         let first = if late { span(0, 7) } else { vec![] };
         assert_eq!(blank(&played)[2..], [first, vec![], vec![]], "{name}");
-    }
-}
-
-// Slip: "The half byte read as 0 to 15, or its remainder modulo 160 taken before the sign is put
-// back." Slip: "An extra pulse added to a visible pulse."
-#[test]
-fn half_bytes_8_to_15_move_right_columns_go_round_and_visible_clocks_move_nothing() {
-    // HMOVE's clock, the half byte, the number of lines with both, the column after them.
-    let mut rows = vec![
-        (9, 7, 6, 154),  // 36 - 42 = -6
-        (9, 7, 30, 146), // 36 - 210 = -174
-        (9, 8, 16, 4),   // 36 + 128 = 164
-        (9, 8, 30, 116), // 36 + 240 = 276
-        (9, 15, 123, 159),
-        (9, 15, 124, 0),
-        (9, 1, 36, 0),
-        (9, 1, 37, 159),
-    ];
-    rows.extend((0..8).map(|value| (9, value, 1, 36 - usize::from(value))));
-    rows.extend((8..16).map(|value| (9, value, 1, 52 - usize::from(value))));
-    rows.extend((68..=163).flat_map(|hmove| [0, 7, 8, 15].map(|value| (hmove, value, 1, 36))));
-    for (hmove, half_byte, times, column) in rows {
-        let mut lists = vec![vec![0, 0x1D, 2, 100, 0x12, 0]];
-        lists.extend(vec![vec![0, 0x22, half_byte << 4, hmove, 0x2A, 0]; times]);
-        lists.extend([vec![], vec![]]);
-        assert_eq!(columns(&play(&lists), M0)[times + 2], [column]);
     }
 }
 

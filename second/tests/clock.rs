@@ -65,8 +65,7 @@ fn a_bad_state_is_refused_before_an_unknown_register() {
 // Step 1: "If h = 0 the late flag falls." Step 2: HMOVE "at clocks 0 to 67 raises the late flag";
 // settled: later it neither raises nor lowers it. Step 3: "h below 68, or below 76 with the late
 // flag". Step 10: "128 for h below 68; 64 for a blank column; otherwise bits 0 to 5 ... In an
-// unblanked column every pair lit together sets its latch"; slip: "Latches set under the eight
-// blanked columns." Step 11: "227 going to 0".
+// unblanked column every pair lit together sets its latch." Step 11: "227 going to 0".
 #[test]
 fn late_flag_blank_answer_byte_latches_and_h_at_every_clock() {
     for h in 0..228 {
@@ -159,7 +158,7 @@ fn the_value_written_on_a_comparing_clock_is_compared() {
 }
 
 // Step 5: "An object is pulsed if the clock is not blank or it has an extra pulse; never twice."
-// Slip: "An extra pulse added to a visible pulse." An extra pulse in the blank can reach a start.
+// An extra pulse in the blank can reach a start.
 #[test]
 fn an_extra_pulse_moves_in_the_blank_and_is_lost_on_a_visible_clock() {
     for (h, late) in [(64, false), (68, false), (72, true), (76, true)] {
@@ -217,8 +216,7 @@ fn copies_written_on_the_clock_of_a_start_count() {
 }
 
 // Step 7: "makes the position 0, pulse or not, and there is no start; age still follows the pulse.
-// The ball's strobe also makes its age 0." Slip: "A strobe treated as a start, so a player's main
-// copy shows a line early."
+// The ball's strobe also makes its age 0."
 #[test]
 fn a_strobe_makes_the_position_0_and_is_no_start() {
     // Clock, slot (0: with an extra pulse), age before and after.

@@ -13,5 +13,6 @@ mod lit;
 mod read_outs;
 mod registers;
 mod replay;
+mod slips;
 mod state;
 mod tape;
