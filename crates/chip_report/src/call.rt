@@ -1,7 +1,9 @@
-// What the case file has for a call: the length of its list or tape, these bytes, and the buffer before the call.
+// What the case file has for a call: the length of its list or tape, these bytes, and the two buffers before the call.
 ghost use Prim.Native.Nat.{_≤_};
 ghost use lib.ListN.{length};
 use libc::STDIN_FILENO;
+use tia::LineAnswer;
+use tia::State;
 
 // The room for a list or a tape: the longest that a case may have.
 const LONGEST: usize = 4096;
@@ -34,7 +36,7 @@ fn next(byte: u8) -> u8 {
 }
 
 // Fills a buffer with bytes that rise from the first one.
-pub(crate) fn fill(buffer: &mut [u8], first: u8) {
+fn fill(buffer: &mut [u8], first: u8) {
     let mut byte = first;
     let mut i = 0;
     while i < buffer.len() {
@@ -42,4 +44,22 @@ pub(crate) fn fill(buffer: &mut [u8], first: u8) {
         byte = next(byte);
         i += 1;
     }
+}
+
+// Fills the two buffers of a call: the first from a byte on, the colour buffer from 100 above it on.
+pub(crate) fn fill_both(buffer: &mut [u8], colours: &mut [u8], first: u8) {
+    fill(buffer, first);
+    fill(colours, ((first as u32 + 100) % 256) as u8);
+}
+
+// A line call with both buffers filled before it.
+pub(crate) fn line_called(
+    state: State,
+    list: &[u8],
+    buffer: &mut [u8],
+    colours: &mut [u8],
+    first: u8,
+) -> LineAnswer {
+    fill_both(buffer, colours, first);
+    tia::line(state, list, buffer, colours)
 }

@@ -1,5 +1,6 @@
-// The state as 61 bytes, one a field, in the order of the case file.
+// The state as 65 bytes, one a field, in the order of the case file.
 ghost use Prim.Native.Nat.{_≤_};
+use tia::Colours;
 use tia::Enable;
 use tia::Graphic;
 use tia::Latches;
@@ -13,7 +14,7 @@ use tia::State;
 use tia::Timing;
 
 // The object of four bytes from a place.
-fn object_from(bytes: &[u8; 64], at: usize) -> Object
+fn object_from(bytes: &[u8; 69], at: usize) -> Object
     requires { ⌜ at ≤ 17 ⌝ }
 {
     Object {
@@ -25,7 +26,7 @@ fn object_from(bytes: &[u8; 64], at: usize) -> Object
 }
 
 // The latches, from byte 25 on.
-fn latches_from(bytes: &[u8; 64]) -> Latches {
+fn latches_from(bytes: &[u8; 69]) -> Latches {
     Latches {
         m0p1: bytes[25] != 0,
         m0p0: bytes[26] != 0,
@@ -46,7 +47,7 @@ fn latches_from(bytes: &[u8; 64]) -> Latches {
 }
 
 // The registers, from byte 40 on.
-fn registers_from(bytes: &[u8; 64]) -> Registers {
+fn registers_from(bytes: &[u8; 69]) -> Registers {
     Registers {
         nusiz0: Nusiz {
             copies: bytes[40],
@@ -84,8 +85,8 @@ fn registers_from(bytes: &[u8; 64]) -> Registers {
     }
 }
 
-// The state of the first 61 bytes.
-pub(crate) fn state_from(bytes: &[u8; 64]) -> State {
+// The state of the first 65 bytes.
+pub(crate) fn state_from(bytes: &[u8; 69]) -> State {
     State {
         timing: Timing {
             h: bytes[0],
@@ -106,12 +107,18 @@ pub(crate) fn state_from(bytes: &[u8; 64]) -> State {
             bl: object_from(bytes, 17),
         },
         registers: registers_from(bytes),
+        colours: Colours {
+            colup0: bytes[61],
+            colup1: bytes[62],
+            colupf: bytes[63],
+            colubk: bytes[64],
+        },
         latches: latches_from(bytes),
     }
 }
 
-// The 61 bytes of a state.
-pub(crate) fn bytes_of(state: State) -> [u8; 61] {
+// The 65 bytes of a state.
+pub(crate) fn bytes_of(state: State) -> [u8; 65] {
     let timing = state.timing;
     let objects = state.objects;
     let player0 = objects.p0;
@@ -129,6 +136,7 @@ pub(crate) fn bytes_of(state: State) -> [u8; 61] {
     let graphic0 = registers.graphic0;
     let graphic1 = registers.graphic1;
     let enabl = registers.enabl;
+    let colours = state.colours;
     [
         timing.h,
         p0.position,
@@ -191,5 +199,9 @@ pub(crate) fn bytes_of(state: State) -> [u8; 61] {
         graphic0.delayed as u8,
         graphic1.delayed as u8,
         enabl.delayed as u8,
+        colours.colup0,
+        colours.colup1,
+        colours.colupf,
+        colours.colubk,
     ]
 }

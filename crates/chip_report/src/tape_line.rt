@@ -1,6 +1,6 @@
 // The row of a line of a tape.
 ghost use Prim.Native.Nat.{_≤_};
-use crate::call::fill;
+use crate::call::fill_both;
 use crate::call::length_of;
 use crate::call::lent_of;
 use crate::call::read_part;
@@ -62,24 +62,25 @@ fn show_reading(tape: &[u8], at: usize) {
     text(b" ");
 }
 
-// Playing the line at a place of a tape, with a lent buffer: its answer, and the digests of its state and its buffer.
-fn show_playing(record: &[u8; 64], tape: &[u8], at: usize, buffer: &mut [u8], first: u8) {
-    fill(buffer, first);
-    let answer = replay::play_line(state_from(record), tape, at, buffer);
+// Playing the line at a place of a tape, with lent buffers: its answer, and the digests of its state and its buffers.
+fn show_playing(record: &[u8; 69], tape: &[u8], at: usize, buffer: &mut [u8], colours: &mut [u8]) {
+    let answer = replay::play_line(state_from(record), tape, at, buffer, colours);
     let verdict = answer.verdict;
     let state = answer.state;
     played(verdict);
     hex(with_bytes(0, &bytes_of(state)));
     text(b" ");
     hex(with_bytes(0, buffer));
+    text(b" ");
+    hex(with_bytes(0, colours));
     text(b"\n");
 }
 
 // The row of a line of a tape. The rest of its place, the tape's length and the tape follow its record.
-pub(crate) fn row(n: u32, record: &[u8; 64]) {
+pub(crate) fn row(n: u32, record: &[u8; 69]) {
     let mut head = [0u8; 8];
     io::read_full(STDIN_FILENO, &mut head);
-    let high = four(record[62], record[63], head[0], head[1]);
+    let high = four(record[67], record[68], head[0], head[1]);
     let at = high * 4294967296 + four(head[2], head[3], head[4], head[5]);
     let mut space = [0u8; 4096];
     let length = length_of(head[6], head[7]);
@@ -87,7 +88,15 @@ pub(crate) fn row(n: u32, record: &[u8; 64]) {
     let tape: &[u8] = &space;
     let mut room = [0u8; 255];
     let buffer: &mut [u8] = &mut room;
-    let lent = lent_of(record[61]);
+    let lent = lent_of(record[65]);
+    let mut colour_room = [0u8; 255];
+    let colours: &mut [u8] = &mut colour_room;
+    let colours_lent = lent_of(record[66]);
+    fill_both(
+        &mut buffer[0..lent],
+        &mut colours[0..colours_lent],
+        (n % 256) as u8,
+    );
     heading(b"tape ", n);
     show_reading(&tape[0..length], at as usize);
     show_playing(
@@ -95,6 +104,6 @@ pub(crate) fn row(n: u32, record: &[u8; 64]) {
         &tape[0..length],
         at as usize,
         &mut buffer[0..lent],
-        (n % 256) as u8,
+        &mut colours[0..colours_lent],
     );
 }

@@ -69,15 +69,13 @@ impl Cursor {
     }
 }
 
-// The digest after one more clock: its number, index and byte, its state, and that state's read-out.
+// The digest after one more clock: its number, index, byte and colour, its state, and that state's read-out.
 fn with_clock(digest: u32, answer: ClockAnswer) -> u32 {
     let state = answer.state;
     let out = tia::read_out(state);
     let bytes = out.bytes;
-    let clock = with_byte(
-        with_byte(with_byte(digest, answer.number), answer.index),
-        answer.byte,
-    );
+    let verdict = with_byte(with_byte(digest, answer.number), answer.index);
+    let clock = with_byte(with_byte(verdict, answer.byte), answer.colour);
     let states = with_bytes(clock, &bytes_of(state));
     with_bytes(with_byte(with_byte(states, out.number), out.index), &bytes)
 }
@@ -97,7 +95,7 @@ fn digest_of(start: State, writes: &[u8; 192]) -> u32 {
 }
 
 // The row of a walk: its number and its digest. Its writes follow its record.
-pub(crate) fn row(n: u32, record: &[u8; 64]) {
+pub(crate) fn row(n: u32, record: &[u8; 69]) {
     let mut writes = [0u8; 192];
     io::read_full(STDIN_FILENO, &mut writes);
     heading(b"walk ", n);

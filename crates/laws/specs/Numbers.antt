@@ -1,4 +1,4 @@
--- The refusal numbers, in document 01's order; and row 4 with its test, which a line call and a tape share.
+-- The refusal numbers, in the order of documents 01 and 02; and row 4 with its test, which a line call and a tape share.
 use Prim.Native.Nat.{ℕ, _%_, _<_}
 use mathlib.Core.Path.{_≡_}
 use mathlib.Core.Logic.{_⊎_}
@@ -50,3 +50,7 @@ forTapeEnd = 9
 -- 10: no such count (over 62), value (over 63; in conversion also 111111) or object (over 5).
 abbrev pub forNoSuch : ℕ
 forNoSuch = 10
+
+-- 11: colour buffer not 160 bytes; checked after 3 (document 02, One).
+abbrev pub forColourLength : ℕ
+forColourLength = 11

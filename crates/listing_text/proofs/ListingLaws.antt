@@ -10,6 +10,7 @@ use lib.Dec.{ltb}
 use lib.ListN.{length}
 use Rattle.tape.specs.Reading.{longest}
 use Rattle.tia.specs.declared.state.State.{State}
+use Rattle.tia.specs.Line.{lineRooms}
 use Rattle.tia.specs.State.{startState}
 use Rattle.replay.specs.declared.play.Verdict.{Verdict}
 use Rattle.replay.specs.declared.play.Verdict.the-variants.{Played, Ended, Refused}
@@ -50,7 +51,7 @@ steps-are-rows tape =
     (λ steps s at r. (line : ℕ) → stepsText steps line s tape (Line at) ≡ replayText line s r)
     (λ s at line. refl)
     (λ steps s at next later e holds line.
-    let row = rowText line (lineFrom s tape at .bytes) in
+    let row = rowText line (lineFrom s tape at .filled .objects) in
     let rows = rowsText (suc line) (later .lines) in
     let after = stateAfterLines (lineFrom s tape at .state) (later .lines) in
     let counted : suc line + length (later .lines) ≡ line + suc (length (later .lines)) = omega arith in
@@ -59,7 +60,7 @@ steps-are-rows tape =
     ∙ sym (append-assoc row rows _)
     ∙ ap (λ (n : ℕ). (row ++ rows) ++ lastText n after (later .verdict)) counted))
     (λ steps s at v e stopped line.
-    let same = unplayed-state s tape at 160 (rw e stopped) in
+    let same = unplayed-state s tape at lineRooms (rw e stopped) in
     rw e (last-step line steps s tape at v stopped same))
 
 -- A program that takes the first step and then enough more, each from where the one before left off, prints the listing.

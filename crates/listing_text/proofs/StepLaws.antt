@@ -12,12 +12,13 @@ use Rattle.laws.proofs.OneToOne.{one-to-one}
 use Rattle.tape.specs.Reading.{longest}
 use Rattle.tia.specs.declared.state.State.{State}
 use Rattle.tia.specs.State.{startState}
+use Rattle.tia.specs.Line.{Buffers, buffers, lineRooms}
 use Rattle.replay.specs.declared.play.PlayAnswer.{PlayAnswer}
 use Rattle.replay.specs.declared.play.Verdict.{Verdict}
 use Rattle.replay.specs.declared.play.Verdict.the-variants.{Played, Ended, Refused}
 use Rattle.replay.specs.Play.{playAnswer, PlayPromise}
 use Rattle.replay.specs.Replay.{lineFrom}
-use Rattle.replay.proofs.PlayLaws.{play-answered, played-bytes}
+use Rattle.replay.proofs.PlayLaws.{play-answered, played-pictures}
 use Rattle.listing_text.specs.declared.listing.Next.{Next}
 use Rattle.listing_text.specs.declared.listing.Next.the-variants.{Line, Done}
 use Rattle.listing_text.specs.declared.listing.Printed.{Printed}
@@ -81,12 +82,15 @@ module _ (tape : List ℕ) (s : State) (start : s ≡ startState) {count : ℕ} 
   opens short p = rw (start, le-ltb longest (length tape) short) (prints (Line 1) startState p)
 
 -- A later step, by the verdict on its line.
-module _ (s : State) (tape : List ℕ) (place line : ℕ) (played : PlayAnswer) (bytes : List ℕ)
-    (promise : PlayPromise s tape place (replicate 160 0) played bytes) where
-  answered : played ≡ playAnswer s tape place 160
-  answered = play-answered s tape place (replicate 160 0) played bytes promise
+abbrev empty : Buffers
+empty = buffers (replicate 160 0) (replicate 160 0)
 
-  said : (v : Verdict) → played .verdict ≡ v → playAnswer s tape place 160 .verdict ≡ v
+module _ (s : State) (tape : List ℕ) (place line : ℕ) (played : PlayAnswer) (after : Buffers)
+    (promise : PlayPromise s tape place empty played after) where
+  answered : played ≡ playAnswer s tape place lineRooms
+  answered = play-answered s tape place empty played after promise
+
+  said : (v : Verdict) → played .verdict ≡ v → playAnswer s tape place lineRooms .verdict ≡ v
   said v e = ap (λ (a : PlayAnswer). a .verdict) (sym answered) ∙ e
 
   -- What is printed for a verdict.
@@ -97,9 +101,9 @@ module _ (s : State) (tape : List ℕ) (place line : ℕ) (played : PlayAnswer) 
     steps : (v : Verdict) → played .verdict ≡ v → Text (lineText line (lineFrom s tape place) v) count room → Goes (lineNext v)
     steps v e p = rw (answered, said v e) (prints (lineNext v) (lineFrom s tape place .state) p)
 
-    pub step-row : (next : ℕ) → played .verdict ≡ Played next → Text (rowText line bytes) count room → Goes (Line next)
+    pub step-row : (next : ℕ) → played .verdict ≡ Played next → Text (rowText line (after .objects)) count room → Goes (Line next)
     step-row next e p =
-        let shown = promise .1 ∙ played-bytes s tape place (replicate 160 0) next (said (Played next) e) in
+        let shown = promise .1 ∙ played-pictures s tape place empty next (said (Played next) e) in
         steps (Played next) e (rw shown at p)
 
     pub step-ended : played .verdict ≡ Ended → Text (latchesText (played .state)) count room → Goes Done

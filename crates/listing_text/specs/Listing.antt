@@ -9,7 +9,7 @@ use lib.Seq.{sets}
 use Rattle.tape.specs.Reading.{longest, version1}
 use Rattle.tia.specs.declared.state.State.{State}
 use Rattle.tia.specs.State.{startState}
-use Rattle.tia.specs.Object.{columns}
+use Rattle.tia.specs.Line.{lineRooms}
 use Rattle.replay.specs.declared.play.Verdict.{Verdict}
 use Rattle.replay.specs.declared.play.Verdict.the-variants.{Played, Ended, Refused}
 use Rattle.replay.specs.Play.{playAnswer}
@@ -22,7 +22,7 @@ use Rattle.listing_text.specs.LineText.{heading, tooLong, rowText, latch
 -- The rows of lines, numbered from one on.
 unfoldable pub rowsText : (line : ℕ) → List PlayedLine → List ℕ
 rowsText line [] = []
-rowsText line (l ∷ ls) = rowText line (l .bytes) ++ rowsText (suc line) ls
+rowsText line (l ∷ ls) = rowText line (l .filled .objects) ++ rowsText (suc line) ls
 
 -- The line after the rows: the latch bytes at the tape's end, or the refusal of the line not run. (A whole replay stops nowhere
 -- else.)
@@ -87,15 +87,15 @@ lineNext Ended = Done
 lineNext (Refused n i) = Done
 
 abbrev pub lineText : (line : ℕ) → PlayedLine → Verdict → List ℕ
-lineText line l (Played next) = rowText line (l .bytes)
+lineText line l (Played next) = rowText line (l .filled .objects)
 lineText line l Ended = lastText line (l .state) Ended
 lineText line l (Refused n i) = lastText line (l .state) (Refused n i)
 
 abbrev pub stepText : State → (tape : List ℕ) (place line : ℕ) → List ℕ
-stepText s tape place line = lineText line (lineFrom s tape place) (playAnswer s tape place columns .verdict)
+stepText s tape place line = lineText line (lineFrom s tape place) (playAnswer s tape place lineRooms .verdict)
 
 abbrev pub stepNext : State → (tape : List ℕ) (place : ℕ) → Next
-stepNext s tape place = lineNext (playAnswer s tape place columns .verdict)
+stepNext s tape place = lineNext (playAnswer s tape place lineRooms .verdict)
 
 -- What a later step promises.
 abbrev pub StepPrints : State → (tape : List ℕ) (place line : ℕ) → Printed → Type 0

@@ -53,8 +53,9 @@ pub fn list_line(state: State, tape: &[u8], place: usize, line: u32) -> Printed
     ensures { λ r. ⌜ StepPrints state (now (tape .entry)) place line r ⌝ }
 {
     let mut bytes = [0u8; 160];
+    let mut colours = [0u8; 160];
     let mut room = [0u8; 64];
-    let played = replay::play_line(state, tape, place, &mut bytes);
+    let played = replay::play_line(state, tape, place, &mut bytes, &mut colours);
     let verdict = played.verdict;
     let state = played.state;
     match verdict {

@@ -1,6 +1,7 @@
-// For measuring: makes one line call a number of times and writes the 160 bytes of the last line.
+// For measuring: makes one line call a number of times and writes the 160 object bytes and 160 colour bytes of the last line.
 ghost use mathlib.Core.Path.{_≡_};
 ghost use Rattle.tia.specs.State.{startState};
+ghost use Rattle.tia.specs.Line.{buffers};
 ghost use Rattle.repeat_line.specs.Repeated.{repeated};
 use libc::STDIN_FILENO;
 use libc::STDOUT_FILENO;
@@ -16,21 +17,23 @@ fn big_endian(a: u8, b: u8, c: u8, d: u8) -> u32 {
 }
 
 // Makes the line call so many times from the start state, each from the state that the one before handed back.
-fn repeat(count: u32, writes: &[u8], buffer: &mut [u8])
-    ensures { λ _. ⌜ now (buffer .exit) ≡ repeated count startState (now (writes .entry)) (now (buffer .entry)) ⌝ }
+fn repeat(count: u32, writes: &[u8], buffer: &mut [u8], colours: &mut [u8])
+    ensures { λ _. ⌜ buffers (now (buffer .exit)) (now (colours .exit)) ≡ repeated count startState (now (writes .entry)) (buffers (now (buffer .entry)) (now (colours .entry))) ⌝ }
 {
     let mut state = tia::State::start();
     for turn in 0..count {
-        let answer = tia::line(state, writes, buffer);
+        let answer = tia::line(state, writes, buffer, colours);
         state = answer.state;
     }
 }
 
-// Makes the calls and writes the bytes of the last line.
+// Makes the calls and writes the bytes and colours of the last line.
 fn show(count: u32, writes: &[u8]) {
     let mut bytes = [0u8; 160];
-    repeat(count, writes, &mut bytes);
+    let mut colours = [0u8; 160];
+    repeat(count, writes, &mut bytes, &mut colours);
     io::write_all(STDOUT_FILENO, &bytes);
+    io::write_all(STDOUT_FILENO, &colours);
 }
 
 // Reads the count and the write list; with fewer than four bytes no call is made.

@@ -15,7 +15,7 @@ use Rattle.tape.specs.Reading.{readAt, stretchOf, stretchAt}
 use Rattle.tape.proofs.ReadingLaws.{line-there, stretch-length}
 use Rattle.tia.specs.declared.state.State.{State}
 use Rattle.tia.specs.State.{isByte}
-use Rattle.tia.specs.Line.{lineOf, picture}
+use Rattle.tia.specs.Line.{lineOf, lineRooms, pictures}
 use Rattle.tia.specs.Answers.{lineAnswer}
 use Rattle.tia.specs.Run.{allBytes, isSlice}
 use Rattle.replay.specs.Replay.{PlayedLine, stateAfterLines, replayFrom}
@@ -59,9 +59,9 @@ stretch-slice tape at start end all line =
 -- A line as an accepted line call from a state.
 pub record Follows (s : State) (l : PlayedLine) : Type 0 where
   pub slice : isSlice (l .writes) ≡ true
-  pub number : lineAnswer s (l .writes) 160 .number ≡ 0
-  pub state : l .state ≡ lineAnswer s (l .writes) 160 .state
-  pub bytes : l .bytes ≡ picture (lineOf s (l .writes))
+  pub number : lineAnswer s (l .writes) lineRooms .number ≡ 0
+  pub state : l .state ≡ lineAnswer s (l .writes) lineRooms .state
+  pub filled : l .filled ≡ pictures (lineOf s (l .writes))
 
 abbrev pub Chained : State → List PlayedLine → Type 0
 Chained s [] = Unit {0}
@@ -75,9 +75,9 @@ replay-chained tape all =
     (λ limit s at r. Chained s (r .lines))
     (λ s at. tt)
     (λ limit s at next later e chained.
-    let here = played-here s tape at 160 next e in
+    let here = played-here s tape at lineRooms next e in
     let slice = stretch-slice tape at (here .start) next all (here .line) in
-    (record { slice = slice; number = here .number; state = here .state; bytes = refl }, chained))
+    (record { slice = slice; number = here .number; state = here .state; filled = refl }, chained))
     (λ limit s at v e stopped. tt)
 
 -- Lines that follow one another, in two parts.

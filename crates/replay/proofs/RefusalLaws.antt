@@ -17,13 +17,14 @@ use Rattle.tape.specs.Reading.{badVersion, readAt, stretchAt, placeAnswer}
 use Rattle.tape.proofs.ReadingLaws.{read-answered, line-there, stretch-length}
 use Rattle.tape.proofs.RefusalLaws.{badLine, tapeEnd, readingChecks, reading-number}
 use Rattle.tia.specs.declared.state.State.{State}
+use Rattle.tia.specs.Line.{Rooms}
 use Rattle.tia.specs.Answers.{lineAnswer}
 use Rattle.tia.proofs.RefusalLaws.{lineChecks, line-number}
 use Rattle.replay.specs.declared.play.Verdict.the-variants as verdict
 use Rattle.replay.specs.Play.{lineVerdict, playedAt, playAnswer, verdictNumbers}
 use Rattle.replay.specs.PlayRows.{playRows}
 
--- The checks of the line call but for the fourth, behind the test that the tape has not ended.
+-- The checks of the line call but for the fifth, that of the list's length, behind the test that the tape has not ended.
 abbrev behindTest : List ℕ → (place : ℕ) → Check → Check
 behindTest tape place c =
     let more = not (eqb place (length tape)) in
@@ -33,12 +34,13 @@ behindTest tape place c =
       decides = both more (c .test) (differs place (length tape)) (c .decides);
     }
 
-abbrev butFourth : List {1} Check → List {1} Check
-butFourth [] = []
-butFourth (a ∷ []) = []
-butFourth (a ∷ b ∷ []) = []
-butFourth (a ∷ b ∷ c ∷ []) = []
-butFourth (a ∷ b ∷ c ∷ d ∷ rest) = a ∷ b ∷ c ∷ rest
+abbrev butFifth : List {1} Check → List {1} Check
+butFifth [] = []
+butFifth (a ∷ []) = []
+butFifth (a ∷ b ∷ []) = []
+butFifth (a ∷ b ∷ c ∷ []) = []
+butFifth (a ∷ b ∷ c ∷ d ∷ []) = []
+butFifth (a ∷ b ∷ c ∷ d ∷ e ∷ rest) = a ∷ b ∷ c ∷ d ∷ rest
 
 abbrev behindAll : List ℕ → (place : ℕ) → List {1} Check → List {1} Check
 behindAll tape place [] = []
@@ -63,9 +65,9 @@ verdict-number number index end = by-test (eqb number 0) refl
     by-test true e = sym (eqb-true number 0 e)
     by-test false e = refl
 
-module _ (s : State) (tape : List ℕ) (place room : ℕ) where
+module _ (s : State) (tape : List ℕ) (place : ℕ) (room : Rooms) where
   abbrev playedChecks : List {1} Check
-  playedChecks = behindAll tape place (butFourth (lineChecks s (stretchAt tape place) room))
+  playedChecks = behindAll tape place (butFifth (lineChecks s (stretchAt tape place) room))
 
   abbrev playChecks : List {1} Check
   playChecks = readingChecks tape place ++ playedChecks

@@ -16,6 +16,7 @@ use Rattle.tape.proofs.ReadingLaws.{line-there}
 use Rattle.tia.specs.declared.line_call.LineAnswer.{LineAnswer}
 use Rattle.tia.specs.declared.state.State.{State}
 use Rattle.tia.specs.State.{startState}
+use Rattle.tia.specs.Line.{Rooms, lineRooms}
 use Rattle.tia.specs.Answers.{lineAnswer}
 use Rattle.tia.proofs.RefusalLaws.{refused-line-state}
 use Rattle.replay.specs.declared.play.Verdict.{Verdict}
@@ -32,7 +33,7 @@ Stopped (Refused n i) = Unit {0}
 
 -- Where no line is played the state is the given one.
 pub unplayed-state :
-    (s : State) (tape : List ℕ) (at room : ℕ) → Stopped (playAnswer s tape at room .verdict) → playAnswer s tape at room .state ≡ s
+    (s : State) (tape : List ℕ) (at : ℕ) (room : Rooms) → Stopped (playAnswer s tape at room .verdict) → playAnswer s tape at room .state ≡ s
 unfolding playAnswer
 unplayed-state s tape at room = by-reading (readAt tape at)
   where
@@ -57,21 +58,21 @@ pub over-replay :
     (tape : List ℕ) (Holds : (limit : ℕ) → State → (at : ℕ) → Replay → Type 0) →
     ((s : State) (at : ℕ) → Holds 0 s at (record { lines = []; verdict = Played at })) →
     ((limit : ℕ) (s : State) (at next : ℕ) (later : Replay) →
-    playAnswer s tape at 160 .verdict ≡ Played next → Holds limit (lineFrom s tape at .state) next later →
+    playAnswer s tape at lineRooms .verdict ≡ Played next → Holds limit (lineFrom s tape at .state) next later →
     Holds (suc limit) s at (record { lines = lineFrom s tape at ∷ later .lines; verdict = later .verdict })) →
-    ((limit : ℕ) (s : State) (at : ℕ) (v : Verdict) → playAnswer s tape at 160 .verdict ≡ v → Stopped v →
+    ((limit : ℕ) (s : State) (at : ℕ) (v : Verdict) → playAnswer s tape at lineRooms .verdict ≡ v → Stopped v →
     Holds (suc limit) s at (record { lines = []; verdict = v })) →
     (limit : ℕ) (s : State) (at : ℕ) → Holds limit s at (replayFrom limit s tape at)
 unfolding replayFrom
 over-replay tape Holds none line stop zero s at = none s at
 over-replay tape Holds none line stop (suc limit) s at =
-    by-verdict (playAnswer s tape at 160 .verdict) refl (over-replay tape Holds none line stop limit (lineFrom s tape at .state))
+    by-verdict (playAnswer s tape at lineRooms .verdict) refl (over-replay tape Holds none line stop limit (lineFrom s tape at .state))
   where
     rest : ℕ → Replay
     rest next = replayFrom limit (lineFrom s tape at .state) tape next
 
     by-verdict :
-        (v : Verdict) → playAnswer s tape at 160 .verdict ≡ v →
+        (v : Verdict) → playAnswer s tape at lineRooms .verdict ≡ v →
         ((next : ℕ) → Holds limit (lineFrom s tape at .state) next (rest next)) →
         Holds (suc limit) s at (andThen v (lineFrom s tape at) rest)
     by-verdict (Played next) e later = line limit s at next (rest next) e (later next)
@@ -83,9 +84,9 @@ record Onward (tape : List ℕ) (at next : ℕ) : Type 0 where
   on : at + 2 ≤ next
   inside : next ≤ length tape
 
-onward : (s : State) (tape : List ℕ) (at next : ℕ) → playAnswer s tape at 160 .verdict ≡ Played next → Onward tape at next
+onward : (s : State) (tape : List ℕ) (at next : ℕ) → playAnswer s tape at lineRooms .verdict ≡ Played next → Onward tape at next
 onward s tape at next e =
-    let here = played-here s tape at 160 next e in
+    let here = played-here s tape at lineRooms next e in
     let line = line-there tape at (here .start) next (here .line) in
     record { on = omega arith; inside = line .inside }
 

@@ -7,7 +7,7 @@ use borrow.Author.Tests.{eq-eqb}
 use lib.ListN.{length, replicate}
 use Rattle.tia.specs.declared.state.State.{State}
 use Rattle.tia.specs.State.{startState}
-use Rattle.tia.specs.Line.{lineOf}
+use Rattle.tia.specs.Line.{lineOf, buffers, lineRooms}
 use Rattle.tia.specs.WriteList.{TimedWrite, recordsOf}
 use Rattle.tia.specs.Answers.{lineAnswer}
 use Rattle.tia.specs.Movable.{Movable}
@@ -24,7 +24,14 @@ use Rattle.replay.proofs.ChainLaws.{Follows, Chained, replay-chained, c
 
 -- A played line as a line call.
 abbrev callOf : (s : State) (l : PlayedLine) → Follows s l → Call
-callOf s l f = record { writes = l .writes; buffer = replicate 160 0; writes-slice = f .slice; buffer-slice = refl }
+callOf s l f =
+    record {
+      writes = l .writes;
+      lent = buffers (replicate 160 0) (replicate 160 0);
+      writes-slice = f .slice;
+      objects-slice = refl;
+      colours-slice = refl;
+    }
 
 -- What the call returns is the line's.
 module _ (s : State) (l : PlayedLine) (f : Follows s l) where
@@ -35,8 +42,8 @@ module _ (s : State) (l : PlayedLine) (f : Follows s l) where
     call-accepted : Accepted definedLine s (callOf s l f)
     call-accepted = accepted definedLine defined-meets s (callOf s l f) (start .0) (f .number)
 
-    call-bytes : definedLine s (callOf s l f) .buffer ≡ l .bytes
-    call-bytes = call-accepted .buffer ∙ sym (f .bytes)
+    call-filled : definedLine s (callOf s l f) .after ≡ l .filled
+    call-filled = call-accepted .after ∙ sym (f .filled)
 
     -- It ends at a line start.
     line-starts : LineStart (l .state)
@@ -61,7 +68,7 @@ calls-lists :
 unfolding acceptedLists
 calls-lists s [] chain = refl
 calls-lists s (l ∷ ls) chain =
-    let accepted-one = eq-eqb (lineAnswer s (l .writes) 160 .number) 0 (chain .0 .number) in
+    let accepted-one = eq-eqb (lineAnswer s (l .writes) lineRooms .number) 0 (chain .0 .number) in
     rw accepted-one
     (ap (λ (t : State). recordsOf (l .writes) ∷ acceptedLists definedLine t (callsOf (l .state) ls (chain .1))) (call-state s l (chain .0))
     ∙ ap (λ (later : List (List TimedWrite)). recordsOf (l .writes) ∷ later) (calls-lists (l .state) ls (chain .1)))
@@ -107,10 +114,10 @@ module _ (tape : List ℕ) (all : allBytes tape ≡ true) (o : Movable) where
         second = callOf (one .state) two (from-one .1 .0);
         third = callOf (stateAfterLines (two .state) run) three (from-three .0);
         last = callOf (three .state) four (from-three .1 .0);
-        first-quiet = (none1, refl);
-        second-quiet = (none2, refl);
-        third-quiet = (none3, refl);
-        last-quiet = (none4, refl);
+        first-quiet = (none1, (refl, refl));
+        second-quiet = (none2, (refl, refl));
+        third-quiet = (none3, (refl, refl));
+        last-quiet = (none4, (refl, refl));
       } in
       let claim = rw (
         call-state s one (from-one .0),
@@ -118,8 +125,8 @@ module _ (tape : List ℕ) (all : allBytes tape ≡ true) (o : Movable) where
         calls-state (two .state) run running,
         calls-lists (two .state) run running,
         call-state (stateAfterLines (two .state) run) three (from-three .0),
-        call-bytes (one .state) two (from-one .1 .0) one-ends,
-        call-bytes (three .state) four (from-three .1 .0) three-ends,
+        call-filled (one .state) two (from-one .1 .0) one-ends,
+        call-filled (three .state) four (from-three .1 .0) three-ends,
       )
       at (demand-3 definedLine defined-meets o s calls .1 quiet start) in
       claim ok drawn .1

@@ -4,13 +4,13 @@ use mathlib.Core.Path.{_≡_}
 use mathlib.Core.Bool.{cond}
 use mathlib.Core.List.{List}
 use lib.Dec.{eqb}
-use lib.ListN.{length}
 use Rattle.tape.specs.declared.reading.Place.{Place}
 use Rattle.tape.specs.declared.reading.Place.the-variants.{Line, Ended, Refused}
 use Rattle.tape.specs.Reading.{readAt, stretchAt}
 use Rattle.tia.specs.declared.line_call.LineAnswer.{LineAnswer}
 use Rattle.tia.specs.declared.state.State.{State}
-use Rattle.tia.specs.Answers.{lineAnswer, lineBuffer}
+use Rattle.tia.specs.Line.{Buffers, Rooms, roomsOf}
+use Rattle.tia.specs.Answers.{lineAnswer, lineBuffers}
 use Rattle.replay.specs.declared.play.PlayAnswer.{PlayAnswer}
 use Rattle.replay.specs.declared.play.Verdict.{Verdict}
 use Rattle.replay.specs.declared.play.Verdict.the-variants as verdict
@@ -23,22 +23,22 @@ abbrev pub playedLine : LineAnswer → (end : ℕ) → PlayAnswer
 playedLine answer end = record { verdict = lineVerdict (answer .number) (answer .index) end; state = answer .state }
 
 -- What is played where a reading found a line with these writes; at the tape's end and where the reading is refused, nothing.
-abbrev pub playedAt : State → (writes : List ℕ) (room : ℕ) → Place → PlayAnswer
+abbrev pub playedAt : State → (writes : List ℕ) → Rooms → Place → PlayAnswer
 playedAt s ws room (Line start end) = playedLine (lineAnswer s ws room) end
 playedAt s ws room Ended = record { verdict = verdict.Ended; state = s }
 playedAt s ws room (Refused n) = record { verdict = verdict.Refused n 0; state = s }
 
-unfoldable pub playAnswer : State → (tape : List ℕ) (place room : ℕ) → PlayAnswer
+unfoldable pub playAnswer : State → (tape : List ℕ) (place : ℕ) → Rooms → PlayAnswer
 playAnswer s tape place room = playedAt s (stretchAt tape place) room (readAt tape place)
 
--- The lent buffer after the call: as the line call leaves it; where no line is read, as it was.
-abbrev pub bufferAt : State → (writes buffer : List ℕ) → Place → List ℕ
-bufferAt s ws buffer (Line start end) = lineBuffer s ws buffer
-bufferAt s ws buffer Ended = buffer
-bufferAt s ws buffer (Refused n) = buffer
+-- The lent buffers after the call: as the line call leaves them; where no line is read, as they were.
+abbrev pub buffersAt : State → (writes : List ℕ) → Buffers → Place → Buffers
+buffersAt s ws lent (Line start end) = lineBuffers s ws lent
+buffersAt s ws lent Ended = lent
+buffersAt s ws lent (Refused n) = lent
 
-unfoldable pub playBuffer : State → (tape : List ℕ) (place : ℕ) (buffer : List ℕ) → List ℕ
-playBuffer s tape place buffer = bufferAt s (stretchAt tape place) buffer (readAt tape place)
+unfoldable pub playBuffers : State → (tape : List ℕ) (place : ℕ) → Buffers → Buffers
+playBuffers s tape place lent = buffersAt s (stretchAt tape place) lent (readAt tape place)
 
 -- The paper's numbers for each verdict: the case (0 played, 1 ended, 2 refused), the refusal number (0: not refused), the index of
 -- the record at fault, and the next place, 0 where there is none; then those of the answer. Different answers have different
@@ -61,7 +61,7 @@ pub record PlayNumbers : Type 0 where
 abbrev pub playNumbers : PlayAnswer → PlayNumbers
 playNumbers answer = record { verdict = verdictNumbers (answer .verdict); state = answer .state }
 
--- What playing a line promises of its answer and of the buffer as it returns.
-abbrev pub PlayPromise : State → (tape : List ℕ) (place : ℕ) (buffer : List ℕ) (answer : PlayAnswer) (after : List ℕ) → Type 0
-PlayPromise state tape place buffer answer after =
-    (playNumbers answer ≡ playNumbers (playAnswer state tape place (length buffer))) × (after ≡ playBuffer state tape place buffer)
+-- What playing a line promises of its answer and of both buffers as it returns.
+abbrev pub PlayPromise : State → (tape : List ℕ) (place : ℕ) (lent : Buffers) (answer : PlayAnswer) (after : Buffers) → Type 0
+PlayPromise state tape place lent answer after =
+    (playNumbers answer ≡ playNumbers (playAnswer state tape place (roomsOf lent))) × (after ≡ playBuffers state tape place lent)

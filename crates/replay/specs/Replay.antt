@@ -5,16 +5,15 @@ use lib.ListN.{length}
 use Rattle.tape.specs.Reading.{version1, stretchAt}
 use Rattle.tia.specs.declared.state.State.{State}
 use Rattle.tia.specs.State.{startState}
-use Rattle.tia.specs.Object.{columns}
-use Rattle.tia.specs.Line.{lineOf, picture}
+use Rattle.tia.specs.Line.{lineOf, Buffers, lineRooms, pictures}
 use Rattle.replay.specs.declared.play.Verdict.{Verdict}
 use Rattle.replay.specs.declared.play.Verdict.the-variants.{Played, Ended, Refused}
 use Rattle.replay.specs.Play.{playAnswer}
 
--- A line that was played: its writes as the tape holds them, its 160 answer bytes, and the state after it.
+-- A line that was played: its writes as the tape holds them, its object bytes and colours, and the state after it.
 pub record PlayedLine : Type 0 where
   pub writes : List ℕ
-  pub bytes : List ℕ
+  pub filled : Buffers
   pub state : State
 
 -- What a replay gives: the lines that were played, and the verdict on what came after them, which was not played: the tape's
@@ -40,14 +39,14 @@ andThen (Refused n i) line rest = record { lines = []; verdict = Refused n i }
 abbrev pub lineFrom : State → (tape : List ℕ) (place : ℕ) → PlayedLine
 lineFrom s tape place =
     let writes = stretchAt tape place in
-    record { writes = writes; bytes = picture (lineOf s writes); state = playAnswer s tape place columns .state }
+    record { writes = writes; filled = pictures (lineOf s writes); state = playAnswer s tape place lineRooms .state }
 
 -- At most so many lines from a place on, the first of them from a state.
 unfoldable pub replayFrom : (limit : ℕ) → State → (tape : List ℕ) (place : ℕ) → Replay
 replayFrom zero s tape place = record { lines = []; verdict = Played place }
 replayFrom (suc limit) s tape place =
     let line = lineFrom s tape place in
-    andThen (playAnswer s tape place columns .verdict) line λ next. replayFrom limit (line .state) tape next
+    andThen (playAnswer s tape place lineRooms .verdict) line λ next. replayFrom limit (line .state) tape next
 
 -- A whole tape from the start state. It has fewer lines than bytes.
 unfoldable pub replayOf : (tape : List ℕ) → Replay

@@ -43,7 +43,7 @@ TapePicture o tape =
     let lists = recordsOfLines run in
     allowed o lists ≡ true → drawingOf o (s .registers) ≡ drawingOf o (stateAfterLines (two .state) run .registers) →
     (x : ℕ) → x < columns →
-    bitAt o (four .bytes) x ≡ bitAt o (two .bytes) (turned x (sumOf o (two .state) lists))
+    bitAt o (four .filled .objects) x ≡ bitAt o (two .filled .objects) (turned x (sumOf o (two .state) lists))
 
 abbrev pub TapeDemand3 : Type 0
 TapeDemand3 = (tape : List ℕ) → allBytes tape ≡ true → (o : Movable) → TapePosition o tape × TapePicture o tape

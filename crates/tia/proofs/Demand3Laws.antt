@@ -13,7 +13,7 @@ use Rattle.tia.specs.State.{badState}
 use Rattle.tia.specs.Signed.{mod160}
 use Rattle.tia.specs.Clock.{clockOf}
 use Rattle.tia.specs.WriteList.{recordsOf, writeAt}
-use Rattle.tia.specs.Line.{lineOf, picture}
+use Rattle.tia.specs.Line.{lineOf, Buffers, pictures}
 use Rattle.tia.specs.Movable.{Movable, Drawing, numberOf, positionOf, motionOf, motionRegisterOf, drawingOf}
 use Rattle.tia.specs.Run.{Call, LineCall, Meets, stateAfter, acceptedLists, reckonLines, sumOf}
 use Rattle.tia.specs.Demand3.{turned, bitAt, Quiet, LineStart, PositionClaim, QuietLines, PictureClaim, Demand3}
@@ -39,7 +39,7 @@ record QuietLine (line : LineCall) (o : Movable) (s : State) (c : Call) : Type 0
   settled : Settled o (line s c .answer .state)
   registers : line s c .answer .state .registers ≡ s .registers
   next : line s c .answer .state ≡ quietAt s 228
-  bytes : (x : ℕ) → x < 160 → getD (line s c .buffer) x 0 ≡ clockOf (quietAt s (68 + x)) Nothing .byte
+  bytes : (x : ℕ) → x < 160 → getD (line s c .after .objects) x 0 ≡ clockOf (quietAt s (68 + x)) Nothing .byte
 
 quiet-line : (line : LineCall) → Meets line → (o : Movable) (s : State) (c : Call) → Quiet c → LineStart s → QuietLine line o s c
 unfolding recordsOf writeAt
@@ -50,11 +50,12 @@ quiet-line line meets o s c quiet at-start =
       settled = rw next (end .settled);
       registers = ap (λ (s : State). s .registers) next ∙ quiet-keeps s 228;
       next = next;
-      bytes = λ x h. ap (λ (b : List ℕ). getD b x 0) (a .buffer ∙ ap (λ (ws : List ℕ). picture (lineOf s ws)) (quiet .0)) ∙ line-byte s [] x h;
+      bytes = λ x h.
+          ap (λ (b : Buffers). getD (b .objects) x 0) (a .after ∙ ap (λ (ws : List ℕ). pictures (lineOf s ws)) (quiet .0)) ∙ line-byte s [] x h;
     }
   where
     a : Accepted line s c
-    a = quiet-accepted line meets s c (quiet .0) (quiet .1) (at-start .0) (at-start .1)
+    a = quiet-accepted line meets s c (quiet .0) (quiet .1 .0) (quiet .1 .1) (at-start .0) (at-start .1)
 
     next : line s c .answer .state ≡ quietAt s 228
     next = a .state ∙ ap (λ (ws : List ℕ). lineOf s ws .state) (quiet .0) ∙ line-state s []
@@ -77,7 +78,7 @@ quiet-stays line o s c rest quiet =
 -- .. and shows a settled object in each column as it is drawn there.
 quiet-picture :
     (line : LineCall) (o : Movable) (s : State) (c : Call) → AtRest s → Settled o s → QuietLine line o s c → (x : ℕ) → x < 160 →
-    bitAt o (line s c .buffer) x ≡ drawnAt (drawingOf o (s .registers)) ((positionOf o s + x + 1) % 160)
+    bitAt o (line s c .after .objects) x ≡ drawnAt (drawingOf o (s .registers)) ((positionOf o s + x + 1) % 160)
 quiet-picture line o s c rest settled quiet x h =
     ap (bit (numberOf o)) (quiet .bytes x h)
     ∙ quiet-shows o s x h (position-below o s (rest .good)) settled (idle-start o s rest)
@@ -135,7 +136,7 @@ picture-claim line meets o s quiet calls at-start ok drawn =
         quiet-stays line o s3 (quiet .third) (run .at-rest) three ∙ run .at
         ∙ ap (λ (p : ℕ). turned p sum) (quiet-stays line o s1 (quiet .second) (one .at-rest) two)
 
-    column : (x : ℕ) → x < 160 → bitAt o (line s4 (quiet .last) .buffer) x ≡ bitAt o (line s1 (quiet .second) .buffer) (turned x sum)
+    column : (x : ℕ) → x < 160 → bitAt o (line s4 (quiet .last) .after .objects) x ≡ bitAt o (line s1 (quiet .second) .after .objects) (turned x sum)
     column x h =
         quiet-picture line o s4 (quiet .last) (three .at-rest) (three .settled) four x h
         ∙ ap (λ (d : Drawing). drawnAt d ((positionOf o s4 + x + 1) % 160)) drawing

@@ -15,7 +15,7 @@ use Rattle.tia.specs.declared.write_list.Fault.{Fault}
 use Rattle.tia.specs.Write.{known}
 use Rattle.laws.specs.Numbers.{forClockOver, forClockOrder, forUnknownRegister}
 use Rattle.tia.specs.WriteList.{TimedWrite, recordFault, firstFault, faultAt}
-use Rattle.tia.specs.LineRows.{recordRows, FirstBad, IndexGiven}
+use Rattle.tia.specs.LineRows.{recordRows, FirstBad, OfRecord, IndexGiven}
 
 -- The three tests of a record decide rows 5, 6 and 7, so these give its number, ..
 abbrev recordChecks : (least : ℕ) → TimedWrite → List {1} Check
@@ -131,16 +131,20 @@ none-index index least (r ∷ rs) e = by-test (eqb (faultOf least r) 0) refl e (
     by-test true t e later = later e
     by-test false t e later = absurd (eqb-false (faultOf least r) 0 t e)
 
-few-none : (n : ℕ) → n ≤ 4 → ofRecord n ≡ 0
-few-none n few =
-    rw (ne-eqb n forClockOver (λ e. omega arith), ne-eqb n forClockOrder (λ e. omega arith), ne-eqb n forUnknownRegister (λ e. omega arith))
+other-none : (n : ℕ) → (OfRecord n → ⊥) → ofRecord n ≡ 0
+other-none n other =
+    rw (
+      ne-eqb n forClockOver (λ e. other (omega arith, omega arith)),
+      ne-eqb n forClockOrder (λ e. other (omega arith, omega arith)),
+      ne-eqb n forUnknownRegister (λ e. other (omega arith, omega arith)),
+    )
 
 -- Its index is 0 where it gives 0, and otherwise exactly that of the first bad record.
 pub list-index : (rs : List TimedWrite) → IndexGiven rs (firstFault 0 0 rs .number) (firstFault 0 0 rs .index)
 list-index rs =
     let fault = firstFault 0 0 rs in (
-      λ few. none-index 0 0 rs (fault-number 0 0 rs ∙ few-none (fault .number) few),
-      λ i many.
+      λ other. none-index 0 0 rs (fault-number 0 0 rs ∙ other-none (fault .number) other),
+      λ i of-record.
           let exactly = first-bad-exactly rs (fault .number) i (λ e. omega arith) in
           (λ e. exactly .0 (ap (faultAt (fault .number)) e), λ first. ap (λ (f : Fault). f .index) (exactly .1 first)),
     )

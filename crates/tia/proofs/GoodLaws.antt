@@ -15,14 +15,14 @@ use Rattle.tia.specs.declared.timing.Timing.{Timing}
 use Rattle.tia.specs.declared.write.Write.{Write}
 use Rattle.tia.specs.Write.{ByteWritten, HMBL, HMM0, HMM1, HMP0, HMP1, RESBL, RESM0, RESM1, RESP0, RESP1, HMOVE, hits, unknown}
 use Rattle.tia.specs.Registers.{registersAfter}
-use Rattle.tia.specs.State.{timingInRange, objectsInRange, inRange, anyLive, badState}
+use Rattle.tia.specs.State.{timingInRange, objectsInRange, registersInRange, inRange, anyLive, badState}
 use Rattle.tia.specs.Timing.{timingWritten, comparing, tickOf, timingAfter}
 use Rattle.tia.specs.Object.{equalSlot, objectWritten, objectMoved, objectAfter, playerAfter, missileAfter, ballAfter}
 use Rattle.tia.specs.Clock.{objectsAfter, clockOf}
 use Rattle.laws.specs.Numbers.{forUnknownRegister}
 use Rattle.tia.specs.Answers.{refusedClock, givenClock, clockAnswer}
 use Rattle.tia.proofs.StateLaws.{good-in-range, good-rest, good-by}
-use Rattle.tia.proofs.RangeLaws.{registers-stay, objects-stay, timing-stays}
+use Rattle.tia.proofs.RangeLaws.{registers-stay, colours-stay, objects-stay, timing-stays}
 
 -- With slot 16 reached or kept no live flag is left: a flag falls with the last slot, and HMOVE, which sets it, starts at slot 0.
 rest-live :
@@ -105,6 +105,7 @@ unfolding clockOf inRange
 good-stays s w byte good =
     let in-range = good-in-range s good in
     let rest = and-second (timingInRange (s .timing)) _ in-range in
+    let kept = and-second (objectsInRange (s .objects)) _ rest in
     let r = registersAfter w (s .registers) in
     good-by
     (clockOf s w .state)
@@ -112,7 +113,9 @@ good-stays s w byte good =
     (timing-stays w (s .timing) (and-first (timingInRange (s .timing)) _ in-range))
     (and-both
     (objects-stay (tickAt w (s .timing)) r w (s .objects) (and-first (objectsInRange (s .objects)) _ rest))
-    (registers-stay w (s .registers) byte (and-second (objectsInRange (s .objects)) _ rest))))
+    (and-both
+    (registers-stay w (s .registers) byte (and-first (registersInRange (s .registers)) _ kept))
+    (colours-stay w (s .colours) byte (and-second (registersInRange (s .registers)) _ kept)))))
     (objects-rest w (s .timing) r (s .objects) (λ at. none-live (s .objects) (good-rest s good at)))
 
 -- So a call from a good state hands a good state back, accepted or refused.

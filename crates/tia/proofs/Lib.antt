@@ -3,7 +3,7 @@
 -- Definitions that open together, so that no list of them stands twice.
 pub mod Computing
 -- == One colour clock
--- The known addresses are four ranges, as the code tests them.
+-- The known addresses are three ranges, as the code tests them.
 pub mod WriteLaws
 -- The state check as the code decides it; what a good state shows; the start state is good.
 pub mod StateLaws
@@ -11,7 +11,9 @@ pub mod StateLaws
 pub mod MotionLaws
 -- When a player is lit, by its age; an answer byte shows an object exactly where it has the object's bit.
 pub mod LitLaws
--- Registers, objects and timing stay in their ranges, ..
+-- Which colour is seen in each order of the layers; every colour is even.
+pub mod ColourLaws
+-- Registers, colours, objects and timing stay in their ranges, ..
 pub mod RangeLaws
 -- .. so every clock keeps a good state good.
 pub mod GoodLaws
@@ -56,5 +58,7 @@ pub mod DrawLaws
 pub mod QuietLaws
 -- Demand 3, from these.
 pub mod Demand3Laws
+-- == Colours disturb nothing: a clock, a line and a run.
+pub mod ApartLaws
 -- == Cases that are proved by running the definitions
 pub mod TableProofs

@@ -1,22 +1,23 @@
--- A line clock by clock: the state before each clock, and the answer byte of each.
+-- A line clock by clock: the state before each clock, and the answer byte and colour of each.
 use mathlib.Core.Path.{_≡_, _∙_, refl, sym, ap}
-use mathlib.Core.List.{List}
+use mathlib.Core.List.{List, [], _∷_}
 use Prim.Native.Nat.{ℕ, zero, suc, _+_, _%_, _<_, _≤_}
 use native.Mathlib.Nat.{add-zero, zero-add, add-suc, suc-add, le-of-suc-le-suc, not-suc-le-zero}
 use native.Mathlib.Omega.{arith}
-use lib.ListN.{length, getD, length-drop}
+use lib.ListN.{length, getD, drop, length-drop}
 use lib.Seq.{getD-drop}
 use Rattle.laws.specs.Bits.{bit}
 use Rattle.laws.specs.Steps.{after}
+use Rattle.tia.specs.declared.clock.Clocked.{Clocked}
 use Rattle.tia.specs.declared.state.State.{State}
 use Rattle.tia.specs.declared.write.Write.{Write}
 use Rattle.tia.specs.Clock.{clockOf}
 use Rattle.tia.specs.WriteList.{recordsOf, writeAt}
-use Rattle.tia.specs.Line.{clocksFrom, lineOf, picture}
+use Rattle.tia.specs.Line.{clocksFrom, lineOf, picture, colourPicture}
 use Rattle.tia.specs.FirstLit.{showsAt}
 use Rattle.tia.proofs.LitLaws.{shows-is-bit}
 
--- The state before clock n, from the state before clock 0, and the answer byte of clock n.
+-- The state before clock n, from the state before clock 0.
 unfoldable pub stateAt : (ℕ → Write) → State → ℕ → State
 stateAt writes s zero = s
 stateAt writes s (suc n) = clockOf (stateAt writes s n) (writes n) .state
@@ -25,8 +26,21 @@ pub state-first : (writes : ℕ → Write) (s : State) → stateAt writes s 0 �
 unfolding stateAt
 state-first writes s = refl
 
+-- What a clock gives out: its answer byte, or its colour.
+abbrev pub byteOut : Clocked → ℕ
+byteOut c = c .byte
+
+abbrev pub colourOut : Clocked → ℕ
+colourOut c = c .colour
+
+abbrev pub outputAt : (Clocked → ℕ) → (ℕ → Write) → State → ℕ → ℕ
+outputAt out writes s n = out (clockOf (stateAt writes s n) (writes n))
+
 abbrev pub byteAt : (ℕ → Write) → State → ℕ → ℕ
-byteAt writes s n = clockOf (stateAt writes s n) (writes n) .byte
+byteAt = outputAt byteOut
+
+abbrev pub colourAt : (ℕ → Write) → State → ℕ → ℕ
+colourAt = outputAt colourOut
 
 -- What every clock of some kind keeps, with a value that each moves on, holds after k of them from clock n on.
 pub over-clocks :
@@ -54,19 +68,35 @@ state-after writes s zero n = rw add-zero
 state-after writes s (suc count) n =
     state-after writes s count (suc n) ∙ ap (stateAt writes s) (suc-add n count ∙ sym (add-suc n count))
 
-byte-of :
-    (writes : ℕ → Write) (s : State) (count n i : ℕ) → i < count →
-    getD (clocksFrom writes n count (stateAt writes s n) .bytes) i 0 ≡ byteAt writes s (n + i)
-unfolding clocksFrom stateAt
-byte-of writes s zero n i h = absurd (not-suc-le-zero h)
-byte-of writes s (suc count) n zero h = rw add-zero
-byte-of writes s (suc count) n (suc i) h =
-    byte-of writes s count (suc n) i (le-of-suc-le-suc h) ∙ ap (byteAt writes s) (suc-add n i ∙ sym (add-suc n i))
+-- One output of so many clocks: the answer bytes and the colours are such lists.
+unfoldable pub outputsFrom : (Clocked → ℕ) → (ℕ → Write) → (clock count : ℕ) → State → List ℕ
+outputsFrom out writes clock zero s = []
+outputsFrom out writes clock (suc count) s =
+    out (clockOf s (writes clock)) ∷ outputsFrom out writes (suc clock) count (clockOf s (writes clock) .state)
 
-count-of : (writes : ℕ → Write) (count n : ℕ) (s : State) → length (clocksFrom writes n count s .bytes) ≡ count
-unfolding clocksFrom
-count-of writes zero n s = refl
-count-of writes (suc count) n s = ap suc (count-of writes count (suc n) (clockOf s (writes n) .state))
+bytes-out : (writes : ℕ → Write) (count n : ℕ) (s : State) → clocksFrom writes n count s .bytes ≡ outputsFrom byteOut writes n count s
+unfolding clocksFrom outputsFrom
+bytes-out writes zero n s = refl
+bytes-out writes (suc count) n s = ap (_∷_ (clockOf s (writes n) .byte)) (bytes-out writes count (suc n) (clockOf s (writes n) .state))
+
+colours-out : (writes : ℕ → Write) (count n : ℕ) (s : State) → clocksFrom writes n count s .colours ≡ outputsFrom colourOut writes n count s
+unfolding clocksFrom outputsFrom
+colours-out writes zero n s = refl
+colours-out writes (suc count) n s = ap (_∷_ (clockOf s (writes n) .colour)) (colours-out writes count (suc n) (clockOf s (writes n) .state))
+
+output-of :
+    (out : Clocked → ℕ) (writes : ℕ → Write) (s : State) (count n i : ℕ) → i < count →
+    getD (outputsFrom out writes n count (stateAt writes s n)) i 0 ≡ outputAt out writes s (n + i)
+unfolding outputsFrom stateAt
+output-of out writes s zero n i h = absurd (not-suc-le-zero h)
+output-of out writes s (suc count) n zero h = rw add-zero
+output-of out writes s (suc count) n (suc i) h =
+    output-of out writes s count (suc n) i (le-of-suc-le-suc h) ∙ ap (outputAt out writes s) (suc-add n i ∙ sym (add-suc n i))
+
+count-of : (out : Clocked → ℕ) (writes : ℕ → Write) (count n : ℕ) (s : State) → length (outputsFrom out writes n count s) ≡ count
+unfolding outputsFrom
+count-of out writes zero n s = refl
+count-of out writes (suc count) n s = ap suc (count-of out writes count (suc n) (clockOf s (writes n) .state))
 
 -- The line's write on each clock.
 abbrev pub writesOf : List ℕ → ℕ → Write
@@ -77,16 +107,42 @@ pub line-state : (s : State) (ws : List ℕ) → lineOf s ws .state ≡ stateAt 
 unfolding lineOf stateAt
 line-state s ws = state-after (writesOf ws) s 228 0
 
--- .. and column x has the answer byte of clock 68 + x.
+-- .. and column x of a buffer has the output of clock 68 + x: ..
+abbrev pub columnsOf : (Clocked → ℕ) → State → List ℕ → List ℕ
+columnsOf out s ws = drop 68 (outputsFrom out (writesOf ws) 0 228 s)
+
+pub column-output :
+    (out : Clocked → ℕ) (s : State) (ws : List ℕ) (x : ℕ) → x < 160 → getD (columnsOf out s ws) x 0 ≡ outputAt out (writesOf ws) s (68 + x)
+unfolding stateAt
+column-output out s ws x h =
+    getD-drop 68 (outputsFrom out (writesOf ws) 0 228 s) x 0 ∙ output-of out (writesOf ws) s 228 0 (68 + x) (omega arith)
+    ∙ ap (outputAt out (writesOf ws) s) (zero-add (68 + x))
+
+pub columns-length : (out : Clocked → ℕ) (s : State) (ws : List ℕ) → length (columnsOf out s ws) ≡ 160
+columns-length out s ws = length-drop 68 (outputsFrom out (writesOf ws) 0 228 s) ∙ rw (count-of out (writesOf ws) 228 0 s)
+
+pub picture-columns : (s : State) (ws : List ℕ) → picture (lineOf s ws) ≡ columnsOf byteOut s ws
+unfolding lineOf
+picture-columns s ws = ap (drop 68) (bytes-out (writesOf ws) 228 0 s)
+
+pub colour-columns : (s : State) (ws : List ℕ) → colourPicture (lineOf s ws) ≡ columnsOf colourOut s ws
+unfolding lineOf
+colour-columns s ws = ap (drop 68) (colours-out (writesOf ws) 228 0 s)
+
+-- .. its answer byte, ..
 pub line-byte : (s : State) (ws : List ℕ) (x : ℕ) → x < 160 → getD (picture (lineOf s ws)) x 0 ≡ byteAt (writesOf ws) s (68 + x)
-unfolding lineOf stateAt
-line-byte s ws x h =
-    getD-drop 68 (lineOf s ws .bytes) x 0 ∙ byte-of (writesOf ws) s 228 0 (68 + x) (omega arith)
-    ∙ ap (byteAt (writesOf ws) s) (zero-add (68 + x))
+line-byte s ws x h = rw (picture-columns s ws) (column-output byteOut s ws x h)
+
+-- .. and its colour.
+pub line-colour :
+    (s : State) (ws : List ℕ) (x : ℕ) → x < 160 → getD (colourPicture (lineOf s ws)) x 0 ≡ colourAt (writesOf ws) s (68 + x)
+line-colour s ws x h = rw (colour-columns s ws) (column-output colourOut s ws x h)
 
 pub line-length : (s : State) (ws : List ℕ) → length (picture (lineOf s ws)) ≡ 160
-unfolding lineOf
-line-length s ws = length-drop 68 (lineOf s ws .bytes) ∙ rw (count-of (writesOf ws) 228 0 s)
+line-length s ws = rw (picture-columns s ws) (columns-length byteOut s ws)
+
+pub line-colours-length : (s : State) (ws : List ℕ) → length (colourPicture (lineOf s ws)) ≡ 160
+line-colours-length s ws = rw (colour-columns s ws) (columns-length colourOut s ws)
 
 -- A line from a line start ends at a line start.
 pub line-restarts : (s : State) (ws : List ℕ) → s .timing .h ≡ 0 → lineOf s ws .state .timing .h ≡ 0

@@ -1,4 +1,4 @@
--- Every part of a state stays in its range: registers, objects and timing.
+-- Every part of a state stays in its range: registers, colours, objects and timing.
 use mathlib.Core.Path.{_≡_, refl}
 use mathlib.Core.Bool.{Bool, true, false, cond, _&&_, _||_}
 use Prim.Native.Nat.{ℕ, _+_, _%_, _/_, _≤_, zero-le}
@@ -6,6 +6,7 @@ use native.Mathlib.Omega.{arith}
 use borrow.Author.Tests.{le-leb, leb-true, ltb-true}
 use lib.Dec.{eqb, ltb, leb}
 use Rattle.laws.proofs.Bools.{and-both, and-first, and-second, cond-passes}
+use Rattle.tia.specs.declared.colours.Colours.{Colours}
 use Rattle.tia.specs.declared.object.Object.{Object}
 use Rattle.tia.specs.declared.object.Player.{Player}
 use Rattle.tia.specs.declared.playfield.Playfield.{Playfield}
@@ -16,10 +17,10 @@ use Rattle.tia.specs.declared.state.Objects.{Objects}
 use Rattle.tia.specs.declared.timing.Tick.{Tick}
 use Rattle.tia.specs.declared.timing.Timing.{Timing}
 use Rattle.tia.specs.declared.write.Write.{Write}
-use Rattle.tia.specs.Write.{ByteWritten, NUSIZ0, NUSIZ1, CTRLPF, REFP0, REFP1, PF0, PF1, PF2, GRP0, GRP1, HMBL, HMM0, HMM1, HMP0, HMP1, RESBL}
+use Rattle.tia.specs.Write.{ByteWritten, NUSIZ0, NUSIZ1, COLUP0, COLUP1, COLUPF, COLUBK, CTRLPF, REFP0, REFP1, PF0, PF1, PF2, GRP0, GRP1, HMBL, HMM0, HMM1, HMP0, HMP1, RESBL}
 use Rattle.tia.specs.Write.{RESM0, RESM1, RESP0, RESP1, VDELP0, VDELP1, HMOVE, HMCLR, hits, byteOf}
-use Rattle.tia.specs.Registers.{upper, nusizAfter, graphicAfter, playfieldAfter, registersAfter}
-use Rattle.tia.specs.State.{timingInRange, objectInRange, playerInRange, objectsInRange, nusizInRange, playfieldInRange, graphicInRange, registersInRange}
+use Rattle.tia.specs.Registers.{upper, nusizAfter, graphicAfter, playfieldAfter, registersAfter, coloursAfter}
+use Rattle.tia.specs.State.{timingInRange, objectInRange, playerInRange, objectsInRange, nusizInRange, playfieldInRange, graphicInRange, registersInRange, coloursInRange}
 use Rattle.tia.specs.Timing.{timingWritten, comparing, timingAfter}
 use Rattle.tia.specs.Object.{objectWritten, slotPassed, pulsedIf, strobedIf, isPulsed, isStarted, older, sizeOf, objectMoved, objectAfter}
 use Rattle.tia.specs.Object.{playerAfter, missileAfter, ballAfter}
@@ -29,7 +30,7 @@ use Rattle.tia.specs.Clock.{objectsAfter}
 chosen : (limit : ℕ) (b : Bool) (m n : ℕ) → m ≤ limit → leb n limit ≡ true → leb (cond b m n) limit ≡ true
 chosen limit b m n p q = cond-passes (λ n. leb n limit) b (le-leb m limit p) q
 
--- NUSIZ, a graphic, the playfield, and so all registers.
+-- NUSIZ, a graphic, the playfield, the colours, and so all registers.
 nusiz-stays : (address : ℕ) (w : Write) (n : Nusiz) → nusizInRange n ≡ true → nusizInRange (nusizAfter address w n) ≡ true
 nusiz-stays address w n ok =
     and-both
@@ -61,6 +62,19 @@ playfield-stays w p byte ok =
     (and-both
     (chosen 255 (hits w PF1) (byteOf w) (p .pf1) byte (and-first (leb (p .pf1) 255) _ last))
     (chosen 255 (hits w PF2) (byteOf w) (p .pf2) byte (and-second (leb (p .pf1) 255) _ last))))
+
+pub colours-stay : (w : Write) (c : Colours) → ByteWritten w → coloursInRange c ≡ true → coloursInRange (coloursAfter w c) ≡ true
+unfolding coloursInRange coloursAfter
+colours-stay w c byte ok =
+    let from1 = and-second (leb (c .colup0) 255) _ ok in
+    let last = and-second (leb (c .colup1) 255) _ from1 in
+    and-both
+    (chosen 255 (hits w COLUP0) (byteOf w) (c .colup0) byte (and-first (leb (c .colup0) 255) _ ok))
+    (and-both
+    (chosen 255 (hits w COLUP1) (byteOf w) (c .colup1) byte (and-first (leb (c .colup1) 255) _ from1))
+    (and-both
+    (chosen 255 (hits w COLUPF) (byteOf w) (c .colupf) byte (and-first (leb (c .colupf) 255) _ last))
+    (chosen 255 (hits w COLUBK) (byteOf w) (c .colubk) byte (and-second (leb (c .colupf) 255) _ last))))
 
 pub registers-stay :
     (w : Write) (r : Registers) → ByteWritten w → registersInRange r ≡ true →

@@ -20,12 +20,13 @@ use Rattle.tia.specs.declared.write_list.Fault.{Fault}
 use Rattle.tia.specs.Write.{unknown}
 use Rattle.tia.specs.State.{inRange, liveAtRest, badState}
 use Rattle.tia.specs.Clock.{clockOf}
-use Rattle.laws.specs.Numbers.{badLength, forBadState, forLineClock, forBufferLength, forListLength, forClockOver, forClockOrder, forUnknownRegister, forNoSuch}
+use Rattle.laws.specs.Numbers.{badLength, forBadState, forLineClock, forBufferLength, forListLength, forClockOver, forClockOrder, forUnknownRegister, forNoSuch, forColourLength}
 use Rattle.tia.specs.WriteList.{TimedWrite, recordsOf, firstFault, faultAt, listFault}
 use Rattle.tia.specs.FirstLit.{shows, firstFrom, firstLitOf, columnAnswer, firstLitAnswer}
 use Rattle.tia.specs.Answers.{badStateRow, unknownRegisterRow, refusedClock, givenClock, clockAnswer, refusedReadOut, givenReadOut}
-use Rattle.tia.specs.Answers.{readOutAnswer, lineFault, lineAnswer, lineBuffer}
-use Rattle.tia.specs.LineRows.{IndexGiven, lineRows, firstLitRows}
+use Rattle.tia.specs.Line.{Buffers, Rooms, roomsOf}
+use Rattle.tia.specs.Answers.{readOutAnswer, lineFault, lineAnswer, lineBuffers}
+use Rattle.tia.specs.LineRows.{OfRecord, IndexGiven, lineRows, firstLitRows}
 use Rattle.tia.proofs.FirstBadLaws.{list-decided, fault-number, list-index}
 
 -- The state check decides row 1.
@@ -64,12 +65,13 @@ read-out-refused-exactly s =
     rw (read-out-number (badState s) (s .latches)) (in-order (check forBadState (badState s) (bad-decided s) ∷ []) refl)
 
 -- The tests of a line call, in their order.
-abbrev pub lineChecks : State → List ℕ → (room : ℕ) → List {1} Check
+abbrev pub lineChecks : State → List ℕ → (room : Rooms) → List {1} Check
 lineChecks s ws room =
     let number = firstFault 0 0 (recordsOf ws) .number in
     check forBadState (badState s) (bad-decided s)
     ∷ check forLineClock (not (eqb (s .timing .h) 0)) (differs (s .timing .h) 0)
-    ∷ check forBufferLength (not (eqb room 160)) (differs room 160)
+    ∷ check forBufferLength (not (eqb (room .objects) 160)) (differs (room .objects) 160)
+    ∷ check forColourLength (not (eqb (room .colours) 160)) (differs (room .colours) 160)
     ∷ check forListLength (badLength (length ws)) (length-decided (length ws))
     ∷ check forClockOver (eqb number forClockOver) (list-decided (recordsOf ws) forClockOver (λ e. omega (arith, e)))
     ∷ check forClockOrder (eqb number forClockOrder) (list-decided (recordsOf ws) forClockOrder (λ e. omega (arith, e)))
@@ -77,64 +79,70 @@ lineChecks s ws room =
     ∷ []
 
 fault-by-tests :
-    (bad clock full list : Bool) (later : Fault) →
+    (bad clock full colours list : Bool) (later : Fault) →
     (cond bad (faultAt forBadState 0)
-    (cond clock (faultAt forLineClock 0) (cond full (faultAt forBufferLength 0) (cond list (faultAt forListLength 0) later)))) .number
-    ≡ cond bad forBadState (cond clock forLineClock (cond full forBufferLength (cond list forListLength (later .number))))
-fault-by-tests true clock full list later = refl
-fault-by-tests false true full list later = refl
-fault-by-tests false false true list later = refl
-fault-by-tests false false false true later = refl
-fault-by-tests false false false false later = refl
+    (cond clock (faultAt forLineClock 0)
+    (cond full (faultAt forBufferLength 0) (cond colours (faultAt forColourLength 0) (cond list (faultAt forListLength 0) later))))) .number
+    ≡ cond bad forBadState
+    (cond clock forLineClock (cond full forBufferLength (cond colours forColourLength (cond list forListLength (later .number)))))
+fault-by-tests true clock full colours list later = refl
+fault-by-tests false true full colours list later = refl
+fault-by-tests false false true colours list later = refl
+fault-by-tests false false false true list later = refl
+fault-by-tests false false false false true later = refl
+fault-by-tests false false false false false later = refl
 
-pub line-number : (s : State) (ws : List ℕ) (room : ℕ) → lineAnswer s ws room .number ≡ firstOf (lineChecks s ws room)
+pub line-number : (s : State) (ws : List ℕ) (room : Rooms) → lineAnswer s ws room .number ≡ firstOf (lineChecks s ws room)
 unfolding lineAnswer lineFault listFault
 line-number s ws room =
     fault-by-tests
     (badState s)
     (not (eqb (s .timing .h) 0))
-    (not (eqb room 160))
+    (not (eqb (room .objects) 160))
+    (not (eqb (room .colours) 160))
     (badLength (length ws))
     (firstFault 0 0 (recordsOf ws))
     ∙ ap
     (λ (n : ℕ).
     cond (badState s) forBadState
     (cond (not (eqb (s .timing .h) 0)) forLineClock
-    (cond (not (eqb room 160)) forBufferLength (cond (badLength (length ws)) forListLength n))))
+    (cond (not (eqb (room .objects) 160)) forBufferLength
+    (cond (not (eqb (room .colours) 160)) forColourLength (cond (badLength (length ws)) forListLength n)))))
     (fault-number 0 0 (recordsOf ws))
 
--- A line call refuses by rows 1 to 7, and nothing else.
-pub line-refused-exactly : (s : State) (ws : List ℕ) (room : ℕ) → GivenInOrder (lineRows s ws room) (lineAnswer s ws room .number)
+-- A line call refuses by rows 1 to 3, 11, 4 and 5 to 7, and nothing else.
+pub line-refused-exactly : (s : State) (ws : List ℕ) (room : Rooms) → GivenInOrder (lineRows s ws room) (lineAnswer s ws room .number)
 line-refused-exactly s ws room = rw (line-number s ws room) (in-order (lineChecks s ws room) refl)
 
--- The index of a fault of rows 1 to 4 is 0.
+-- The index of a fault of rows 1 to 3, 11 and 4 is 0.
 earlier-index :
-    (rs : List TimedWrite) (b : Bool) (n : ℕ) (later : Fault) → n ≤ 4 → IndexGiven rs (later .number) (later .index) →
+    (rs : List TimedWrite) (b : Bool) (n : ℕ) (later : Fault) → (OfRecord n → ⊥) → IndexGiven rs (later .number) (later .index) →
     IndexGiven rs ((cond b (faultAt n 0) later) .number) ((cond b (faultAt n 0) later) .index)
-earlier-index rs true n later few given = (λ h. refl, λ i many. absurd (omega arith))
-earlier-index rs false n later few given = given
+earlier-index rs true n later other given = (λ h. refl, λ i of-record. absurd (other of-record))
+earlier-index rs false n later other given = given
 
--- The index is 0 with the numbers 0 to 4, and with 5, 6 and 7 exactly that of the first bad record.
+-- The index is exactly that of the first bad record with the numbers 5, 6 and 7, and 0 with every other.
 pub line-index-exactly :
-    (s : State) (ws : List ℕ) (room : ℕ) → IndexGiven (recordsOf ws) (lineAnswer s ws room .number) (lineAnswer s ws room .index)
+    (s : State) (ws : List ℕ) (room : Rooms) → IndexGiven (recordsOf ws) (lineAnswer s ws room .number) (lineAnswer s ws room .index)
 unfolding lineAnswer lineFault listFault
 line-index-exactly s ws room =
     let rs = recordsOf ws in
-    earlier-index rs (badState s) forBadState _ (omega arith)
-    (earlier-index rs (not (eqb (s .timing .h) 0)) forLineClock _ (omega arith)
-    (earlier-index rs (not (eqb room 160)) forBufferLength _ (omega arith)
-    (earlier-index rs (badLength (length ws)) forListLength _ (omega arith) (list-index rs))))
+    earlier-index rs (badState s) forBadState _ (λ of-record. omega arith)
+    (earlier-index rs (not (eqb (s .timing .h) 0)) forLineClock _ (λ of-record. omega arith)
+    (earlier-index rs (not (eqb (room .objects) 160)) forBufferLength _ (λ of-record. omega arith)
+    (earlier-index rs (not (eqb (room .colours) 160)) forColourLength _ (λ of-record. omega arith)
+    (earlier-index rs (badLength (length ws)) forListLength _ (λ of-record. omega arith) (list-index rs)))))
 
--- A refused line call hands back the given state and leaves the buffer.
+-- A refused line call hands back the given state and leaves both buffers.
 pub refused-line-state :
-    (s : State) (ws : List ℕ) (room : ℕ) → (lineAnswer s ws room .number ≡ 0 → ⊥) → lineAnswer s ws room .state ≡ s
+    (s : State) (ws : List ℕ) (room : Rooms) → (lineAnswer s ws room .number ≡ 0 → ⊥) → lineAnswer s ws room .state ≡ s
 unfolding lineAnswer
 refused-line-state s ws room refused = rw (ne-eqb (lineFault s ws room .number) 0 refused)
 
-pub refused-line-buffer :
-    (s : State) (ws buffer : List ℕ) → (lineAnswer s ws (length buffer) .number ≡ 0 → ⊥) → lineBuffer s ws buffer ≡ buffer
-unfolding lineAnswer lineBuffer
-refused-line-buffer s ws buffer refused = rw (ne-eqb (lineFault s ws (length buffer) .number) 0 refused)
+pub refused-line-buffers :
+    (s : State) (ws : List ℕ) (lent : Buffers) → (lineAnswer s ws (roomsOf lent) .number ≡ 0 → ⊥) → lineBuffers s ws lent ≡ lent
+unfolding lineAnswer lineBuffers
+refused-line-buffers s ws lent refused = rw (ne-eqb (lineFault s ws (roomsOf lent) .number) 0 refused)
 
 -- The search refuses nothing.
 search-number : (object x : ℕ) (bytes : List ℕ) → columnAnswer (firstFrom object x bytes) .number ≡ 0

@@ -66,7 +66,7 @@ pub line-good : (ws : List ℕ) (s : State) → allBytes ws ≡ true → badStat
 line-good ws s all good = rw (line-state s ws) (good-at ws s all good 228)
 
 -- So no run leaves the good states, whatever its calls are.
-call-good :
+pub call-good :
     (line : LineCall) → Meets line → (s : State) (c : Call) → badState s ≡ false → badState (line s c .answer .state) ≡ false
 call-good line meets s c good = by-test (eqb (line s c .answer .number) 0) refl
   where

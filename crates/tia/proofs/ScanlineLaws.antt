@@ -1,4 +1,4 @@
--- A line under way, clock by clock: its state, the cursor into its list, and the columns filled so far.
+-- A line under way, clock by clock: its state, the cursor into its list, and the columns of both buffers filled so far.
 use mathlib.Core.Path.{_≡_, _∙_, refl, sym, ap}
 use mathlib.Core.Bool.{true}
 use mathlib.Core.List.{List}
@@ -16,13 +16,14 @@ use Rattle.tia.specs.declared.write.Write.{Write}
 use Rattle.tia.specs.State.{timingInRange}
 use Rattle.tia.specs.Clock.{clockOf}
 use Rattle.tia.specs.WriteList.{recordsOf}
-use Rattle.tia.specs.Line.{lineOf, picture}
+use Rattle.tia.specs.Line.{lineOf, picture, colourPicture, Buffers, buffers, roomsOf, pictures}
 use Rattle.tia.specs.Cursor.{dueAt, passedBy, stored}
 use Rattle.tia.specs.Answers.{lineFault}
 use Rattle.tia.proofs.StateLaws.{good-in-time}
 use Rattle.tia.proofs.RangeLaws.{timing-stays}
 use Rattle.tia.proofs.AnswerLaws.{no-fault}
-use Rattle.tia.proofs.LineLaws.{stateAt, byteAt, writesOf, line-state, line-byte, line-length}
+use Rattle.tia.proofs.LineLaws.{stateAt, byteOut, colourOut, outputAt, writesOf, columnsOf, column-output, columns-length}
+use Rattle.tia.proofs.LineLaws.{line-state, picture-columns, colour-columns}
 use Rattle.tia.proofs.RisingLaws.{sound-by}
 use Rattle.tia.proofs.CursorLaws.{Follows, follows-start, cursor-is-lookup}
 
@@ -55,22 +56,55 @@ module _ (n byte : ℕ) (buffer columns : List ℕ) where
       let next : n + 1 - 68 ≡ suc (n - 68) = omega arith in
       rw (le-ltb n 68 h, next, take-suc-set buffer (n - 68) byte room, take-suc columns (n - 68) 0 within, done, e)
 
--- A line before clock h: the state, a cursor that stands for the lookup, and the columns up to h filled.
-pub record Running (s₀ : State) (ws : List ℕ) (s : State) (buffer : List ℕ) (cursor h : ℕ) : Type 0 where
+-- The columns of a buffer that are filled before clock h: those of one output of the line's clocks.
+abbrev Filled : (Clocked → ℕ) → State → (writes buffer : List ℕ) → ℕ → Type 0
+Filled out s ws buffer h = take (h - 68) buffer ≡ take (h - 68) (columnsOf out s ws)
+
+-- Each clock stores its output in its column.
+column :
+    (out : Clocked → ℕ) (s : State) (ws buffer : List ℕ) (h byte : ℕ) → length buffer ≡ 160 → Filled out s ws buffer h → h < 228 →
+    byte ≡ outputAt out (writesOf ws) s h → Filled out s ws (stored h byte buffer) (h + 1)
+column out s ws buffer h byte room filled below e =
+    ⊎-elim
+    (λ (blank : h < 68). before-columns h byte buffer (columnsOf out s ws) blank)
+    (λ (shown : 68 ≤ h).
+    let same : 68 + (h - 68) ≡ h = omega arith in
+    in-column
+    h
+    byte
+    buffer
+    (columnsOf out s ws)
+    filled
+    shown
+    (omega arith)
+    (omega (arith, columns-length out s ws))
+    (e ∙ sym (column-output out s ws (h - 68) (omega arith) ∙ ap (outputAt out (writesOf ws) s) same)))
+    (split h 68)
+
+-- At the end all of them are filled.
+all-filled :
+    (out : Clocked → ℕ) (s : State) (ws buffer : List ℕ) → length buffer ≡ 160 → Filled out s ws buffer 228 → buffer ≡ columnsOf out s ws
+all-filled out s ws buffer room filled =
+    sym (take-all 160 buffer (omega arith)) ∙ filled ∙ take-all 160 (columnsOf out s ws) (omega (arith, columns-length out s ws))
+
+-- A line before clock h: the state, a cursor that stands for the lookup, and the columns of both buffers up to h filled.
+pub record Running (s₀ : State) (ws : List ℕ) (s : State) (lent : Buffers) (cursor h : ℕ) : Type 0 where
   pub within : h ≤ 228
   pub whole : length ws % 3 ≡ 0
   pub short : length ws ≤ 684
   pub reached : s ≡ stateAt (writesOf ws) s₀ h
   pub in-time : timingInRange (s .timing) ≡ true
   pub follows : Follows ws h cursor
-  pub room : length buffer ≡ 160
-  pub filled : take (h - 68) buffer ≡ take (h - 68) (picture (lineOf s₀ ws))
+  pub room : length (lent .objects) ≡ 160
+  pub colour-room : length (lent .colours) ≡ 160
+  pub filled : Filled byteOut s₀ ws (lent .objects) h
+  pub coloured : Filled colourOut s₀ ws (lent .colours) h
 
 pub line-starts :
-    (s : State) (ws buffer : List ℕ) → lineFault s ws (length buffer) .number ≡ 0 → Running s ws s buffer 0 0
+    (s : State) (ws : List ℕ) (lent : Buffers) → lineFault s ws (roomsOf lent) .number ≡ 0 → Running s ws s lent 0 0
 unfolding stateAt
-line-starts s ws buffer none =
-    let call = no-fault s ws (length buffer) none in
+line-starts s ws lent none =
+    let call = no-fault s ws (roomsOf lent) none in
     let list = sound-by ws (call .list) in
     record {
       within = omega arith;
@@ -80,37 +114,19 @@ line-starts s ws buffer none =
       in-time = good-in-time s (call .good);
       follows = follows-start ws (list .rises);
       room = call .full;
+      colour-room = call .colours;
       filled = refl;
+      coloured = refl;
     }
 
--- Each clock stores its byte in its column.
-module _ (s₀ : State) (ws : List ℕ) (s : State) (buffer : List ℕ) (cursor h : ℕ) (now : Running s₀ ws s buffer cursor h) where
-  column :
-      (byte : ℕ) → h < 228 → byte ≡ byteAt (writesOf ws) s₀ h →
-      take (h + 1 - 68) (stored h byte buffer) ≡ take (h + 1 - 68) (picture (lineOf s₀ ws))
-  column byte below e =
-      ⊎-elim
-      (λ (blank : h < 68). before-columns h byte buffer (picture (lineOf s₀ ws)) blank)
-      (λ (shown : 68 ≤ h).
-      let same : 68 + (h - 68) ≡ h = omega arith in
-      in-column
-      h
-      byte
-      buffer
-      (picture (lineOf s₀ ws))
-      (now .filled)
-      shown
-      (omega arith)
-      (omega (arith, line-length s₀ ws))
-      (e ∙ sym (line-byte s₀ ws (h - 68) (omega arith) ∙ ap (byteAt (writesOf ws) s₀) same)))
-      (split h 68)
-
+module _ (s₀ : State) (ws : List ℕ) (s : State) (lent : Buffers) (cursor h : ℕ) (now : Running s₀ ws s lent cursor h) where
   pub line-goes-on :
-      (w : Write) (k : Clocked) (after : List ℕ) (next : ℕ) →
-      h < 228 → w ≡ dueAt (recordsOf (drop cursor ws)) h → k ≡ clockOf s w → after ≡ stored h (k .byte) buffer → next ≡ passedBy w cursor →
-      Running s₀ ws (k .state) after next (h + 1)
+      (w : Write) (k : Clocked) (objects colours : List ℕ) (next : ℕ) →
+      h < 228 → w ≡ dueAt (recordsOf (drop cursor ws)) h → k ≡ clockOf s w →
+      objects ≡ stored h (k .byte) (lent .objects) → colours ≡ stored h (k .colour) (lent .colours) → next ≡ passedBy w cursor →
+      Running s₀ ws (k .state) (buffers objects colours) next (h + 1)
   unfolding stateAt
-  line-goes-on w k after next below due clocked put past =
+  line-goes-on w k objects colours next below due clocked put painted past =
       let found = cursor-is-lookup ws h cursor (now .whole) (now .follows) in
       let one : k ≡ clockOf (stateAt (writesOf ws) s₀ h) (writesOf ws h) = rw (← now .reached, ← found .0, ← due) clocked in
       record {
@@ -120,13 +136,24 @@ module _ (s₀ : State) (ws : List ℕ) (s : State) (buffer : List ℕ) (cursor 
         reached = rw add-one (ap (λ (k : Clocked). k .state) one);
         in-time = rw clocked (clock-in-time s w (now .in-time));
         follows = rw (past, due) (found .1);
-        room = rw put (stored-length h (k .byte) buffer ∙ now .room);
-        filled = rw put (column (k .byte) below (ap (λ (k : Clocked). k .byte) one));
+        room = rw put (stored-length h (k .byte) (lent .objects) ∙ now .room);
+        colour-room = rw painted (stored-length h (k .colour) (lent .colours) ∙ now .colour-room);
+        filled =
+            rw put
+            (column byteOut s₀ ws (lent .objects) h (k .byte) (now .room) (now .filled) below (ap (λ (k : Clocked). k .byte) one));
+        coloured =
+            rw painted
+            (column colourOut s₀ ws (lent .colours) h (k .colour) (now .colour-room) (now .coloured) below (ap (λ (k : Clocked). k .colour) one));
       }
 
-  pub line-ends : 228 ≤ h → (s ≡ lineOf s₀ ws .state) × (buffer ≡ picture (lineOf s₀ ws))
+  pub line-ends : 228 ≤ h → (s ≡ lineOf s₀ ws .state) × (lent ≡ pictures (lineOf s₀ ws))
   line-ends over =
       let last : h ≡ 228 = omega arith in (
         rw last at (now .reached) ∙ sym (line-state s₀ ws),
-        sym (take-all 160 buffer (omega arith)) ∙ rw last at (now .filled) ∙ take-all 160 (picture (lineOf s₀ ws)) (omega (arith, line-length s₀ ws)),
+        both
+            (all-filled byteOut s₀ ws (lent .objects) (now .room) (rw last at (now .filled)) ∙ sym (picture-columns s₀ ws))
+            (all-filled colourOut s₀ ws (lent .colours) (now .colour-room) (rw last at (now .coloured)) ∙ sym (colour-columns s₀ ws)),
       )
+    where
+      both : lent .objects ≡ picture (lineOf s₀ ws) → lent .colours ≡ colourPicture (lineOf s₀ ws) → lent ≡ pictures (lineOf s₀ ws)
+      both e c = λ i. record { objects = e i; colours = c i }

@@ -5,11 +5,12 @@ use Prim.Native.Nat.{_≤_}
 use borrow.Author.Tests.{le-leb, leb-true, eq-eqb, eqb-true}
 use lib.Dec.{eqb, leb}
 use Rattle.laws.proofs.Bools.{and-first, and-second, or-neither, or-first, or-second}
+use Rattle.tia.specs.declared.colours.Colours.{Colours}
 use Rattle.tia.specs.declared.registers.Graphic.{Graphic}
 use Rattle.tia.specs.declared.registers.Registers.{Registers}
 use Rattle.tia.specs.declared.state.State.{State}
 use Rattle.tia.specs.declared.timing.Timing.{Timing}
-use Rattle.tia.specs.State.{timingInRange, nusizInRange, playfieldInRange, graphicInRange, registersInRange}
+use Rattle.tia.specs.State.{timingInRange, nusizInRange, playfieldInRange, graphicInRange, registersInRange, coloursInRange}
 use Rattle.tia.specs.State.{inRange, anyLive, liveAtRest, badState, startState}
 use Rattle.tia.proofs.Computing.{check}
 
@@ -35,6 +36,13 @@ registers-by-bytes r c p1 p2 n0 o0 n1 o1 =
       and-true,
       and-true,
     )
+
+-- Colours that are bytes are in range.
+pub colour-bytes :
+    (c : Colours) → c .colup0 ≤ 255 → c .colup1 ≤ 255 → c .colupf ≤ 255 → c .colubk ≤ 255 → coloursInRange c ≡ true
+unfolding coloursInRange
+colour-bytes c p0 p1 pf bk =
+    rw (le-leb (c .colup0) 255 p0, le-leb (c .colup1) 255 p1, le-leb (c .colupf) 255 pf, le-leb (c .colubk) 255 bk)
 
 -- A good state is in range, ..
 pub good-in-range : (s : State) → badState s ≡ false → inRange s ≡ true

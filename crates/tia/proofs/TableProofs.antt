@@ -1,10 +1,11 @@
--- The cases that are proved by running the definitions: document 01's P cases; runs, and pictures, for demand 3.
+-- The cases that are proved by running the definitions: document 01's P cases; colours; runs, and pictures, for demand 3.
 use mathlib.Core.Path.{_≡_, refl}
 use mathlib.Core.List.{map}
 use Rattle.counter.specs.Answers.{given}
 use Rattle.tia.specs.State.{startState}
 use Rattle.tia.specs.Movable.{P0, M0}
 use Rattle.tia.specs.Cases.{Case, pulsesUntilRest, extraPulses, lastLine, firstLit, countBlank, answerTo, cases}
+use Rattle.tia.specs.ColourCases.{ColourCase, coloursOf, colourCases}
 use Rattle.tia.specs.RunCases.{RunCase, outcomeOf, runCases}
 use Rattle.tia.specs.PictureCases.{countBelow, pictureOutcome, playerAt, PictureCase, pictureCases}
 use Rattle.tia.proofs.Computing.{counter, chip, run}
@@ -13,6 +14,11 @@ use Rattle.tia.proofs.Computing.{counter, chip, run}
 pub cases-hold : map (λ (c : Case). answerTo (c .asked)) cases ≡ map (λ (c : Case). given (c .claimed)) cases
 unfolding counter chip pulsesUntilRest extraPulses lastLine firstLit countBlank
 cases-hold = refl
+
+-- The colours of columns, by each priority.
+pub colours-hold : map coloursOf colourCases ≡ map (λ (c : ColourCase). c .claimed) colourCases
+unfolding chip lastLine coloursOf
+colours-hold = refl
 
 -- Runs that meet demand 3's premises, and runs that do not.
 pub runs-hold : map (λ (c : RunCase). outcomeOf M0 startState (c .calls)) runCases ≡ map (λ (c : RunCase). c .outcome) runCases

@@ -14,7 +14,8 @@ use Rattle.tia.specs.Timing.{noMotion}
 use Rattle.tia.specs.Object.{columns}
 use Rattle.tia.specs.Clock.{clockOf}
 use Rattle.tia.specs.FirstLit.{firstLitAnswer}
-use Rattle.tia.specs.Answers.{lineAnswer, lineBuffer}
+use Rattle.tia.specs.Line.{Buffers, buffers, lineRooms}
+use Rattle.tia.specs.Answers.{lineAnswer, lineBuffers}
 use Rattle.tia.specs.Movable.{P0, M0, BL, numberOf}
 
 -- The pulses that missile 0 gets in clocks without a write until slot 16, no motion under way. Where that takes more clocks than
@@ -34,17 +35,20 @@ extraPulses m =
     let moving = clockOf (clockOf startState (Register HMM0 (16 * m)) .state) (Register HMOVE 0) .state in
     pulsesUntilRest 66 moving
 
--- Lines in turn from the start state, with these write lists: the answer bytes of the last. Each gets a buffer of blank columns,
--- so that a refused one would show nothing.
-unfoldable pub lastLine : State → List (List ℕ) → List ℕ
-lastLine s [] = []
-lastLine s (l ∷ []) = lineBuffer s l (replicate columns 64)
-lastLine s (l ∷ m ∷ ls) = lastLine (lineAnswer s l columns .state) (m ∷ ls)
+-- Lines in turn from the start state, with these write lists: the buffers after the last. The object bytes are those of blank
+-- columns before it and the colours 1, which no column has, so that a refused line would show nothing.
+abbrev pub unshown : Buffers
+unshown = buffers (replicate columns 64) (replicate columns 1)
+
+unfoldable pub lastLine : State → List (List ℕ) → Buffers
+lastLine s [] = unshown
+lastLine s (l ∷ []) = lineBuffers s l unshown
+lastLine s (l ∷ m ∷ ls) = lastLine (lineAnswer s l lineRooms .state) (m ∷ ls)
 
 -- The first lit column of an object in it; 160, past the last column, where none is lit.
 unfoldable pub firstLit : (object : ℕ) → List (List ℕ) → ℕ
 firstLit object ls =
-    let answer = firstLitAnswer (lastLine startState ls) object in
+    let answer = firstLitAnswer (lastLine startState ls .objects) object in
     cond (eqb (answer .case) 0) (answer .column) columns
 
 -- Its blank columns.
@@ -76,7 +80,7 @@ answerTo (count-of-value v) = countAnswer v
 answerTo (step-from k v) = stepAnswer k v
 answerTo (extra-pulses m) = given (extraPulses m)
 answerTo (first-lit o ls) = given (firstLit o ls)
-answerTo (blank-columns ls) = given (countBlank (lastLine startState ls))
+answerTo (blank-columns ls) = given (countBlank (lastLine startState ls .objects))
 
 -- A case: what is asked, and the value that document 01 claims for it.
 pub record Case : Type 0 where

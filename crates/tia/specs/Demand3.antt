@@ -29,13 +29,13 @@ use Rattle.tia.specs.Run.{Call, LineCall, Meets, stateAfter, acceptedLis
 abbrev pub turned : ℕ → ℤ → ℕ
 turned x sum = mod160 (pos x +ℤ sum)
 
--- Picture: the object's bit in each of the 160 bytes as the call returns.
+-- Picture: the object's bit in each of the 160 object bytes as the call returns.
 abbrev pub bitAt : Movable → List ℕ → (column : ℕ) → Bool
 bitAt o bytes x = bit (numberOf o) (getD bytes x 0)
 
--- A line without writes: an empty list and a buffer of 160 bytes.
+-- A line without writes: an empty list and two buffers of 160 bytes.
 abbrev pub Quiet : Call → Type 0
-Quiet c = (c .writes ≡ []) × (length (c .buffer) ≡ columns)
+Quiet c = (c .writes ≡ []) × ((length (c .lent .objects) ≡ columns) × (length (c .lent .colours) ≡ columns))
 
 -- A good state at a line start.
 abbrev pub LineStart : State → Type 0
@@ -69,7 +69,7 @@ PictureClaim line o s quiet calls =
     LineStart s → allowed o lists ≡ true → drawingOf o (s .registers) ≡ drawingOf o (before .registers) →
     ((one .answer .number ≡ 0) × ((two .answer .number ≡ 0) × ((three .answer .number ≡ 0) × (four .answer .number ≡ 0))))
     × ((x : ℕ) → x < columns →
-    bitAt o (four .buffer) x ≡ bitAt o (two .buffer) (turned x (sumOf o (two .answer .state) lists)))
+    bitAt o (four .after .objects) x ≡ bitAt o (two .after .objects) (turned x (sumOf o (two .answer .state) lists)))
 
 abbrev pub Demand3 : Type 0
 Demand3 =

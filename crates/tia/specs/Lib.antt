@@ -8,6 +8,7 @@ pub mod Object
 pub mod Lit
 pub mod Playfield
 pub mod Latches
+pub mod Colour
 pub mod Clock
 pub mod WriteList
 pub mod Line
@@ -18,6 +19,8 @@ pub mod LineRows
 pub mod Movable
 pub mod Run
 pub mod Demand3
+pub mod Apart
 pub mod Cases
+pub mod ColourCases
 pub mod RunCases
 pub mod PictureCases

@@ -11,9 +11,10 @@ use Rattle.tia.specs.declared.first_lit.FirstLit.{FirstLit}
 use Rattle.tia.specs.declared.first_lit.FirstLit.the-variants.{Column, Unlit, Refused}
 use Rattle.tia.specs.declared.state.State.{State}
 use Rattle.tia.specs.Write.{known}
-use Rattle.laws.specs.Numbers.{BadLength, forLineClock, forBufferLength, forListLength, forClockOver, forClockOrder, forUnknownRegister, forNoSuch}
+use Rattle.laws.specs.Numbers.{BadLength, forLineClock, forBufferLength, forListLength, forClockOver, forClockOrder, forUnknownRegister, forNoSuch, forColourLength}
 use Rattle.tia.specs.Object.{columns}
 use Rattle.tia.specs.WriteList.{TimedWrite, recordsOf}
+use Rattle.tia.specs.Line.{Rooms}
 use Rattle.tia.specs.FirstLit.{showsAt}
 use Rattle.tia.specs.Answers.{badStateRow}
 
@@ -31,27 +32,33 @@ FirstBad least [] n i = ⊥
 FirstBad least (r ∷ rs) n zero = GivenInOrder (recordRows least r) n × (n ≡ 0 → ⊥)
 FirstBad least (r ∷ rs) n (suc i) = GivenInOrder (recordRows least r) 0 × FirstBad (r .clock + 1) rs n i
 
--- The index that goes with a number: 0 with 0 to 4, and with 5, 6 and 7 that of the first bad record.
+-- The numbers that a record can get, 5, 6 and 7. The index that goes with a number: with these that of the first bad record, with
+-- every other 0.
+abbrev pub OfRecord : ℕ → Type 0
+OfRecord number = (5 ≤ number) × (number ≤ 7)
+
 abbrev pub IndexGiven : List TimedWrite → (number index : ℕ) → Type 0
-IndexGiven rs number index = (number ≤ 4 → index ≡ 0) × ((i : ℕ) → 4 < number → (index ≡ i) ↔ FirstBad 0 rs number i)
+IndexGiven rs number index =
+    ((OfRecord number → ⊥) → index ≡ 0) × ((i : ℕ) → OfRecord number → (index ≡ i) ↔ FirstBad 0 rs number i)
 
 -- Row n, of 5, 6 and 7, for a list: it refuses the first bad record.
 abbrev pub listRow : ℕ → List ℕ → Row
 listRow n ws = row n ((i : ℕ) × FirstBad 0 (recordsOf ws) n i)
 
--- Rows 1 to 3 for a line call with a buffer of so much room, and 5 to 7 for its list.
-abbrev pub callRows : State → (room : ℕ) → List {1} Row
+-- Rows 1 to 3 and 11 for a line call with buffers of so much room, and 5 to 7 for its list.
+abbrev pub callRows : State → Rooms → List {1} Row
 callRows s room =
     badStateRow s
     ∷ row forLineClock (s .timing .h ≡ 0 → ⊥)
-    ∷ row forBufferLength (room ≡ columns → ⊥)
+    ∷ row forBufferLength (room .objects ≡ columns → ⊥)
+    ∷ row forColourLength (room .colours ≡ columns → ⊥)
     ∷ []
 
 abbrev pub listRows : List ℕ → List {1} Row
 listRows ws = listRow forClockOver ws ∷ listRow forClockOrder ws ∷ listRow forUnknownRegister ws ∷ []
 
--- Rows 1 to 7 for a line call.
-abbrev pub lineRows : State → List ℕ → (room : ℕ) → List {1} Row
+-- The rows of a line call in their order: 1 to 3, 11, 4, 5 to 7.
+abbrev pub lineRows : State → List ℕ → Rooms → List {1} Row
 lineRows s ws room = callRows s room ++ (row forListLength (BadLength (length ws)) ∷ listRows ws)
 
 -- Rows 3 and 10 for the first lit column.

@@ -7,7 +7,7 @@ use lib.IntN.{ℤ, pos}
 use Rattle.tia.specs.declared.registers.Graphic.{Graphic}
 use Rattle.tia.specs.declared.state.State.{State}
 use Rattle.tia.specs.Write.{GRP0, GRP1, HMOVE, HMP0}
-use Rattle.tia.specs.State.{startObject, startPlayer, startNusiz, startGraphic, startEnable, startPlayfield, noLatches}
+use Rattle.tia.specs.State.{startObject, startPlayer, startNusiz, startGraphic, startEnable, startPlayfield, startColours, noLatches}
 use Rattle.tia.specs.Object.{columns}
 use Rattle.tia.specs.Movable.{Movable, Drawing, player, drawingOf}
 use Rattle.tia.specs.Run.{Call, definedLine, stateAfter, acceptedLists, sumOf, allowed}
@@ -43,8 +43,8 @@ pictureOutcome o s calls =
       sum = sum;
       before = drawingOf o (s .registers);
       after = drawingOf o (end .registers);
-      lit = countBelow columns (bitAt o (two .buffer));
-      agreeing = countBelow columns (λ x. Bool·beq (bitAt o (four .buffer) x) (bitAt o (two .buffer) (turned x sum)));
+      lit = countBelow columns (bitAt o (two .after .objects));
+      agreeing = countBelow columns (λ x. Bool·beq (bitAt o (four .after .objects) x) (bitAt o (two .after .objects) (turned x sum)));
     }
 
 -- Player 0 at a position, with these copies and this graphic; everything else as at the start.
@@ -71,6 +71,7 @@ playerAt p copies graphic =
             enam1 = false;
             enabl = startEnable;
           };
+      colours = startColours;
       latches = noLatches;
     }
 

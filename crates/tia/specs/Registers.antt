@@ -1,14 +1,16 @@
--- The registers that draw: the bits that they keep of a written byte.
+-- The registers that draw and the colour registers: the bits that they keep of a written byte.
 use Prim.Native.Nat.{ℕ, _/_, _%_}
 use mathlib.Core.Bool.{cond}
 use Rattle.laws.specs.Bits.{bit}
+use Rattle.tia.specs.declared.colours.Colours.{Colours}
 use Rattle.tia.specs.declared.playfield.Playfield.{Playfield}
 use Rattle.tia.specs.declared.registers.Enable.{Enable}
 use Rattle.tia.specs.declared.registers.Graphic.{Graphic}
 use Rattle.tia.specs.declared.registers.Nusiz.{Nusiz}
 use Rattle.tia.specs.declared.registers.Registers.{Registers}
 use Rattle.tia.specs.declared.write.Write.{Write}
-use Rattle.tia.specs.Write.{NUSIZ0, NUSIZ1, CTRLPF, REFP0, REFP1, PF0, PF1, PF2, GRP0, GRP1, ENAM0, ENAM1, ENABL, VDELP0, VDELP1, VDELBL, hits, byteOf}
+use Rattle.tia.specs.Write.{NUSIZ0, NUSIZ1, CTRLPF, REFP0, REFP1, PF0, PF1, PF2, GRP0, GRP1, ENAM0, ENAM1, ENABL, VDELP0, VDELP1, VDELBL}
+use Rattle.tia.specs.Write.{COLUP0, COLUP1, COLUPF, COLUBK, hits, byteOf}
 
 -- The upper half byte.
 abbrev pub upper : ℕ → ℕ
@@ -60,4 +62,14 @@ registersAfter w r =
       enam0 = cond (hits w ENAM0) (bit 1 (byteOf w)) (r .enam0);
       enam1 = cond (hits w ENAM1) (bit 1 (byteOf w)) (r .enam1);
       enabl = enableAfter w (r .enabl);
+    }
+
+-- The colour registers, the written byte kept whole (document 02, One).
+unfoldable pub coloursAfter : Write → Colours → Colours
+coloursAfter w c =
+    record {
+      colup0 = cond (hits w COLUP0) (byteOf w) (c .colup0);
+      colup1 = cond (hits w COLUP1) (byteOf w) (c .colup1);
+      colupf = cond (hits w COLUPF) (byteOf w) (c .colupf);
+      colubk = cond (hits w COLUBK) (byteOf w) (c .colubk);
     }

@@ -13,7 +13,8 @@ use Rattle.tia.specs.Registers.{upper}
 use Rattle.tia.specs.State.{isByte, badState}
 use Rattle.tia.specs.Signed.{signed}
 use Rattle.tia.specs.WriteList.{TimedWrite, recordsOf}
-use Rattle.tia.specs.Answers.{lineAnswer, lineBuffer, LinePromise}
+use Rattle.tia.specs.Line.{Buffers, roomsOf}
+use Rattle.tia.specs.Answers.{lineAnswer, lineBuffers, LinePromise}
 use Rattle.tia.specs.Movable.{Movable, strobeOf, motionRegisterOf, motionOf}
 
 -- What a slice of bytes can be: bytes, fewer than 2 ^ 63.
@@ -24,17 +25,18 @@ allBytes (v ∷ vs) = isByte v && allBytes vs
 abbrev pub isSlice : List ℕ → Bool
 isSlice vs = allBytes vs && ltb (length vs) (2 ^ 63)
 
--- A line call's list, and the buffer that is lent to it.
+-- A line call's list, and the two buffers that are lent to it.
 pub record Call : Type 0 where
   pub writes : List ℕ
-  pub buffer : List ℕ
+  pub lent : Buffers
   pub writes-slice : isSlice writes ≡ true
-  pub buffer-slice : isSlice buffer ≡ true
+  pub objects-slice : isSlice (lent .objects) ≡ true
+  pub colours-slice : isSlice (lent .colours) ≡ true
 
--- What it returns: its answer, and the buffer.
+-- What it returns: its answer, and the buffers.
 pub record Returned : Type 0 where
   pub answer : LineAnswer
-  pub buffer : List ℕ
+  pub after : Buffers
 
 -- A function from states and calls, and that it meets the line call's promise. Nothing is asked of it for a bad state, which no run
 -- comes to.
@@ -44,12 +46,12 @@ LineCall = State → Call → Returned
 abbrev pub Meets : LineCall → Type 0
 Meets line =
     (s : State) (c : Call) → badState s ≡ false →
-    LinePromise s (c .writes) (c .buffer) (line s c .answer) (line s c .buffer)
+    LinePromise s (c .writes) (c .lent) (line s c .answer) (line s c .after)
 
 -- The line call as it is defined.
 abbrev pub definedLine : LineCall
 definedLine s c =
-    record { answer = lineAnswer s (c .writes) (length (c .buffer)); buffer = lineBuffer s (c .writes) (c .buffer) }
+    record { answer = lineAnswer s (c .writes) (roomsOf (c .lent)); after = lineBuffers s (c .writes) (c .lent) }
 
 -- The state after a run: each call, refused or not, gets the state that the call before handed back.
 abbrev pub stateAfter : LineCall → State → List Call → State

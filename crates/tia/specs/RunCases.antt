@@ -8,13 +8,21 @@ use lib.ListN.{length, replicate}
 use Rattle.tia.specs.declared.state.State.{State}
 use Rattle.tia.specs.Write.{HMCLR, HMM0, HMOVE, RESM0}
 use Rattle.tia.specs.Object.{columns}
+use Rattle.tia.specs.Line.{buffers}
 use Rattle.tia.specs.Movable.{Movable, positionOf}
 use Rattle.tia.specs.Run.{isSlice, Call, definedLine, stateAfter, acceptedLists, sumOf, allowed}
 use Rattle.tia.specs.Demand3.{turned}
 
--- A call with a buffer of 160 bytes.
+-- A call with buffers of 160 bytes.
 abbrev pub calling : (writes : List ℕ) → isSlice writes ≡ true → Call
-calling writes slice = record { writes = writes; buffer = replicate columns 0; writes-slice = slice; buffer-slice = refl }
+calling writes slice =
+    record {
+      writes = writes;
+      lent = buffers (replicate columns 0) (replicate columns 0);
+      writes-slice = slice;
+      objects-slice = refl;
+      colours-slice = refl;
+    }
 
 -- What comes of a run: how many lines are accepted, whether the premises hold, the sum, the position that demand 3 claims and
 -- the position itself.

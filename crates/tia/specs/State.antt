@@ -2,6 +2,7 @@
 use Prim.Native.Nat.{ℕ}
 use mathlib.Core.Bool.{Bool, false, _&&_, _||_, not}
 use lib.Dec.{eqb, leb}
+use Rattle.tia.specs.declared.colours.Colours.{Colours}
 use Rattle.tia.specs.declared.latches.Latches.{Latches}
 use Rattle.tia.specs.declared.object.Object.{Object}
 use Rattle.tia.specs.declared.object.Player.{Player}
@@ -52,8 +53,13 @@ registersInRange r =
     && (graphicInRange (r .graphic0)
     && graphicInRange (r .graphic1))))
 
+-- The four colour registers join the state with range 0 to 255 (document 02, One).
+unfoldable pub coloursInRange : Colours → Bool
+coloursInRange c = isByte (c .colup0) && (isByte (c .colup1) && (isByte (c .colupf) && isByte (c .colubk)))
+
 unfoldable pub inRange : State → Bool
-inRange s = timingInRange (s .timing) && (objectsInRange (s .objects) && registersInRange (s .registers))
+inRange s =
+    timingInRange (s .timing) && (objectsInRange (s .objects) && (registersInRange (s .registers) && coloursInRange (s .colours)))
 
 -- Slot 16: no motion under way, all live flags then false.
 abbrev pub anyLive : Objects → Bool
@@ -101,6 +107,9 @@ startRegisters =
       enabl = startEnable;
     }
 
+abbrev pub startColours : Colours
+startColours = record { colup0 = 0; colup1 = 0; colupf = 0; colubk = 0 }
+
 abbrev pub noLatches : Latches
 noLatches =
     record {
@@ -127,5 +136,6 @@ startState =
       timing = record { h = 0; slot = 16; late = false };
       objects = startObjects;
       registers = startRegisters;
+      colours = startColours;
       latches = noLatches;
     }

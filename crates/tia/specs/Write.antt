@@ -8,7 +8,8 @@ use Rattle.tia.specs.declared.write.Write.the-variants.{Nothing, Registe
 
 -- Address    Register                    Bits kept
 -- 04 05      NUSIZ0/1                    0-2 copies, 4-5 missile width 1, 2, 4, 8
--- 0A         CTRLPF                      the whole byte: 0 reflect, 4-5 ball width 1, 2, 4, 8
+-- 06-09      COLUP0/1, COLUPF, COLUBK    all; bit 0 is read as 0 (document 02, One)
+-- 0A         CTRLPF                      the whole byte: 0 reflect, 1 score, 2 playfield first, 4-5 ball width 1, 2, 4, 8
 -- 0B 0C      REFP0/1                     3
 -- 0D 0E 0F   PF0, PF1, PF2               4-7 of PF0, all of PF1 and PF2
 -- 10-14      RESP0/1, RESM0/1, RESBL     none: position strobes
@@ -22,6 +23,18 @@ NUSIZ0 = 0x04
 
 abbrev pub NUSIZ1 : ℕ
 NUSIZ1 = 0x05
+
+abbrev pub COLUP0 : ℕ
+COLUP0 = 0x06
+
+abbrev pub COLUP1 : ℕ
+COLUP1 = 0x07
+
+abbrev pub COLUPF : ℕ
+COLUPF = 0x08
+
+abbrev pub COLUBK : ℕ
+COLUBK = 0x09
 
 abbrev pub CTRLPF : ℕ
 CTRLPF = 0x0A
@@ -107,7 +120,8 @@ CXCLR = 0x2C
 -- All registers.
 abbrev pub registers : List ℕ
 registers =
-    NUSIZ0 ∷ NUSIZ1 ∷ CTRLPF ∷ REFP0 ∷ REFP1 ∷ PF0 ∷ PF1 ∷ PF2
+    NUSIZ0 ∷ NUSIZ1 ∷ COLUP0 ∷ COLUP1 ∷ COLUPF ∷ COLUBK
+    ∷ CTRLPF ∷ REFP0 ∷ REFP1 ∷ PF0 ∷ PF1 ∷ PF2
     ∷ RESP0 ∷ RESP1 ∷ RESM0 ∷ RESM1 ∷ RESBL
     ∷ GRP0 ∷ GRP1 ∷ ENAM0 ∷ ENAM1 ∷ ENABL
     ∷ HMP0 ∷ HMP1 ∷ HMM0 ∷ HMM1 ∷ HMBL

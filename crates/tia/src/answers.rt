@@ -7,12 +7,13 @@ use crate::refusal::UNKNOWN_REGISTER;
 use crate::state::State;
 use crate::write::Write;
 
-// The answer of a clock: refusal number (0: accepted), index of the record at fault, next state and answer byte.
+// The answer of a clock: refusal number (0: accepted), index of the record at fault, next state, answer byte and colour.
 pub struct ClockAnswer {
     pub number: u8,
     pub index: u8,
     pub state: State,
     pub byte: u8,
+    pub colour: u8,
 }
 
 // The answer of the read-out: refusal number (0: accepted), index of the record at fault, eight bytes.
@@ -31,10 +32,11 @@ fn refused(number: u8, state: State) -> ClockAnswer
         index: 0,
         state,
         byte: 0,
+        colour: 0,
     }
 }
 
-// One colour clock: the next state and the answer byte. Refuses a bad state (1), then an unknown register (7).
+// One colour clock: the next state, the answer byte and the colour. Refuses a bad state (1), then an unknown register (7).
 pub fn colour_clock(state: State, write: Write) -> ClockAnswer
     ensures { λ r. ⌜ r ≡ clockAnswer state write ⌝ }
 {
@@ -53,6 +55,7 @@ pub fn colour_clock(state: State, write: Write) -> ClockAnswer
         index: 0,
         state: next,
         byte: clocked.byte,
+        colour: clocked.colour,
     }
 }
 

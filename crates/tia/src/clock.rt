@@ -2,6 +2,7 @@
 ghost use mathlib.Core.Path.{_≡_};
 ghost use Prim.Native.Nat.{_≤_};
 ghost use Rattle.tia.specs.Clock.{objectsAfter, clockOf};
+use crate::lit::column_of;
 use crate::lit::lit_of;
 use crate::registers::Registers;
 use crate::state::Objects;
@@ -17,10 +18,11 @@ use crate::write::RESP0;
 use crate::write::RESP1;
 use crate::write::Write;
 
-// The next state and the answer byte of a clock.
+// The next state, the answer byte and the colour of a clock.
 pub(crate) struct Clocked {
     pub(crate) state: State,
     pub(crate) byte: u8,
+    pub(crate) colour: u8,
 }
 
 impl Objects {
@@ -52,6 +54,7 @@ pub(crate) fn steps(state: State, write: Write) -> Clocked
 {
     let timing = state.timing.written(write);
     let registers = state.registers.written(write);
+    let colours = state.colours.written(write);
     let tick = timing.tick(write);
     let objects = state.objects.clocked(tick, registers, write);
     let h = timing.h;
@@ -63,8 +66,10 @@ pub(crate) fn steps(state: State, write: Write) -> Clocked
             timing: timing.after(tick.comparing),
             objects,
             registers,
+            colours,
             latches,
         },
         byte: lit.answer(h, blank),
+        colour: lit.colour(blank, registers.playfield.ctrlpf, colours, column_of(h)),
     }
 }

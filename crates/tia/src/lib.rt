@@ -2,6 +2,7 @@
 mod answers;
 mod choose;
 mod clock;
+mod colours;
 mod first_lit;
 mod latches;
 mod line_call;
@@ -19,6 +20,7 @@ pub use answers::ClockAnswer;
 pub use answers::ReadOut;
 pub use answers::colour_clock;
 pub use answers::read_out;
+pub use colours::Colours;
 pub use first_lit::FirstLit;
 pub use first_lit::first_lit_column;
 pub use latches::Latches;

@@ -99,7 +99,7 @@ fn width_of(code: u8) -> u8
 }
 
 // The column of a line clock; 0 in the horizontal blank.
-fn column_of(h: u8) -> u8
+pub(crate) fn column_of(h: u8) -> u8
     requires { ⌜ h ≤ 227 ⌝ }
     ensures { λ r. ⌜ (r ≡ columnOf h) × (r < 160) ⌝ }
 {

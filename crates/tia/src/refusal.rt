@@ -23,3 +23,6 @@ pub(crate) const UNKNOWN_REGISTER: u8 = 7;
 
 // No such object.
 pub(crate) const NO_SUCH_OBJECT: u8 = 10;
+
+// A colour buffer that is not 160 bytes long.
+pub(crate) const COLOUR_LENGTH: u8 = 11;

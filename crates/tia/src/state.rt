@@ -2,6 +2,7 @@
 ghost use mathlib.Core.Path.{_≡_};
 ghost use Rattle.tia.specs.State.{objectInRange, playerInRange, objectsInRange, anyLive, timingInRange, nusizInRange, registersInRange};
 ghost use Rattle.tia.specs.State.{badState, startObjects, startRegisters, startState};
+use crate::colours::Colours;
 use crate::latches::Latches;
 use crate::object::LAST_COLUMN;
 use crate::object::NOT_DRAWN;
@@ -30,6 +31,7 @@ pub struct State {
     pub timing: Timing,
     pub objects: Objects,
     pub registers: Registers,
+    pub colours: Colours,
     pub latches: Latches,
 }
 
@@ -46,11 +48,17 @@ impl State {
             },
             objects: start_objects(),
             registers: start_registers(),
+            colours: Colours {
+                colup0: 0,
+                colup1: 0,
+                colupf: 0,
+                colubk: 0,
+            },
             latches: Latches::none(),
         }
     }
 
-    // Whether a field is outside its range, or a live flag is set with no motion under way.
+    // Whether a field is outside its range, or a live flag is set with no motion under way. Every byte is a colour.
     pub(crate) fn is_bad(self) -> bool
         ensures { λ r. ⌜ r ≡ badState self ⌝ }
     {

@@ -9,6 +9,14 @@ pub(crate) const NUSIZ0: u8 = 0x04;
 
 pub(crate) const NUSIZ1: u8 = 0x05;
 
+pub(crate) const COLUP0: u8 = 0x06;
+
+pub(crate) const COLUP1: u8 = 0x07;
+
+pub(crate) const COLUPF: u8 = 0x08;
+
+pub(crate) const COLUBK: u8 = 0x09;
+
 pub(crate) const CTRLPF: u8 = 0x0A;
 
 pub(crate) const REFP0: u8 = 0x0B;
@@ -119,8 +127,6 @@ impl Write {
 pub(crate) fn is_known(address: u8) -> bool
     ensures { λ r. ⌜ r ≡ known address ⌝ }
 {
-    ((NUSIZ0 <= address) & (address <= NUSIZ1))
-        | (((CTRLPF <= address) & (address <= RESBL))
-            | (((GRP0 <= address) & (address <= VDELBL))
-                | ((HMOVE <= address) & (address <= CXCLR))))
+    ((NUSIZ0 <= address) & (address <= RESBL))
+        | (((GRP0 <= address) & (address <= VDELBL)) | ((HMOVE <= address) & (address <= CXCLR)))
 }

@@ -17,10 +17,13 @@ enum-known-found-2 c = search needs
 same-length : tie.Need-same-length
 same-length c = search needs
 
+same-length-2 : tie.Need-same-length-2
+same-length-2 c = search needs
+
 returns : tie.Need-returns
 returns c =
-    let lined = c .before .before .before .before in
-    let stretched = lined .before .before in
+    let lined = c .before .before .before .before .before .before in
+    let stretched = lined .before .before .before in
     let told = stretched .before .before in
     let read = told .before .before .read-at in
     play-line
@@ -63,6 +66,7 @@ play-line-spec =
     enum-told
     enum-known-found-2
     same-length
+    same-length-2
     returns
     returns-2
     returns-3)

@@ -8,18 +8,22 @@ use Rattle.tia.proofs.line_call.line.Tie as tie
 
 scanline-requires : tie.Need-scanline-requires
 scanline-requires c κs =
-    sym (ap (λ (fault : Fault). fault .number) (c .before .before .line-fault .ensures)) ∙ c .before .if1 .taken
+    sym (ap (λ (fault : Fault). fault .number) (c .before .before .before .line-fault .ensures)) ∙ c .before .before .if1 .taken
 
 same-length : tie.Need-same-length
 same-length c = search needs
 
+same-length-2 : tie.Need-same-length-2
+same-length-2 c = search needs
+
 returns : tie.Need-returns
 returns c =
-    let tested = c .before .before .before .before in
-    line-given _ _ _ _ (tested .before .line-fault .ensures) _ _ (tested .if1 .taken) (c .before .before .scanline .ensures)
+    let lined = c .before .before .before .before in
+    let tested = lined .before .before .before in
+    line-given _ _ _ _ (tested .before .line-fault .ensures) _ _ (tested .if1 .taken) (lined .scanline .ensures)
 
 returns-2 : tie.Need-returns-2
 returns-2 c = line-refused _ _ _ _ (c .before .line-fault .ensures) (c .if1 .left)
 
 pub line-spec : {M : Type 1} → statement M
-line-spec = tie.close (tie.spec (λ c κs. tt) scanline-requires same-length returns returns-2)
+line-spec = tie.close (tie.spec (λ c κs. tt) scanline-requires same-length same-length-2 returns returns-2)
