@@ -1,4 +1,4 @@
-//! The command line of the second program: one command a report, the listing, the object bytes,
+//! The command line of the second program: one command a report, the listing, the line bytes,
 //! the repeated line, the test tapes.
 
 mod cases;
@@ -13,7 +13,7 @@ use cases::case::{Case, RunCase};
 use cases::record::cases_of;
 use cases::{chip_cases, sample};
 use model::input::bytes_of_input;
-use model::{listing, object_bytes};
+use model::{line_bytes, listing};
 use reports::failure::Failure;
 use reports::{chip_report, counter_report, demand3_report, repeat_line};
 use std::env;
@@ -33,8 +33,8 @@ commands:
   chip  the chip's answers for the cases of the case file on standard input
   demand3  how often demand 3 is checked on the runs of the case file on standard input
   listing  the listing of the tape on standard input
-  object_bytes  the answer bytes of each line of the tape on standard input (binary)
-  repeat_line  the buffer after as many line calls as standard input asks for (binary)
+  line_bytes  the object bytes and colour bytes of each line of the tape on standard input (binary)
+  repeat_line  the two buffers after as many line calls as standard input asks for (binary)
   tapes DIR  the test tapes, each a file in the folder DIR
 ";
 
@@ -56,8 +56,8 @@ const COMMANDS: [(&str, usize, Run); 10] = [
     ("listing", 0, |_, input, out| {
         Ok(listing::write(input, out)?)
     }),
-    ("object_bytes", 0, |_, input, out| {
-        Ok(object_bytes::write(input, out)?)
+    ("line_bytes", 0, |_, input, out| {
+        Ok(line_bytes::write(input, out)?)
     }),
     ("repeat_line", 0, |_, input, out| {
         Ok(repeat_line::write(input, out)?)

@@ -86,44 +86,67 @@ impl Walk {
     }
 }
 
-/// A line call: the length of the buffer lent to it and its write list.
+/// A line call: the lengths of the object buffer and of the colour buffer lent to it, and its write
+/// list.
 #[derive(Clone, Debug, PartialEq, Eq)]
 pub struct Call {
     pub length: u8,
+    pub colour_length: u8,
     pub list: Vec<u8>,
 }
 
-/// A call that was made: its answer and the buffer as it returns.
+/// What the first byte of the colour buffer lent to a call is more than that of the object buffer.
+const COLOURS_FROM: usize = 100;
+
+/// A call that was made: its answer, the object buffer and the colour buffer as it returns.
 #[derive(Clone, Debug, PartialEq, Eq)]
 pub struct Played<A = LineAnswer> {
     pub answer: A,
     pub buffer: Vec<u8>,
+    pub colours: Vec<u8>,
 }
 
 impl<A> Played<A> {
-    /// Makes a call that is lent a buffer of this length, which holds rising bytes from this one
-    /// on, modulo 256.
-    fn new(length: u8, first_byte: usize, call: impl FnOnce(&mut [u8]) -> A) -> Played<A> {
-        let bytes = first_byte..first_byte + usize::from(length);
-        let mut buffer: Vec<u8> = bytes.map(|byte| byte as u8).collect();
-        let answer = call(&mut buffer);
-        Played { answer, buffer }
+    /// Makes a call that is lent an object buffer and a colour buffer of these lengths, which hold
+    /// rising bytes, modulo 256: the first from this one on, the second from 100 more.
+    fn new(
+        [length, colour_length]: [u8; 2],
+        first_byte: usize,
+        call: impl FnOnce(&mut [u8], &mut [u8]) -> A,
+    ) -> Played<A> {
+        let mut buffer = rising_bytes(length, first_byte);
+        let mut colours = rising_bytes(colour_length, first_byte + COLOURS_FROM);
+        let answer = call(&mut buffer, &mut colours);
+        Played {
+            answer,
+            buffer,
+            colours,
+        }
     }
 }
 
+/// So many rising bytes from this one on, modulo 256.
+fn rising_bytes(length: u8, first_byte: usize) -> Vec<u8> {
+    let bytes = first_byte..first_byte + usize::from(length);
+    bytes.map(|byte| byte as u8).collect()
+}
+
 impl Call {
-    /// The call with these records and a buffer of 160 bytes.
+    /// The call with these records and two buffers of 160 bytes.
     pub fn with(records: &[ListedWrite]) -> Call {
         Call {
             length: COLUMNS as u8,
+            colour_length: COLUMNS as u8,
             list: list_of(records),
         }
     }
 
-    /// Makes the call on a state, with a buffer that holds rising bytes from this one on.
+    /// Makes the call on a state, with buffers that hold rising bytes, the object buffer from this
+    /// one on.
     pub fn play(&self, given: &State, first_byte: usize) -> Played {
-        Played::new(self.length, first_byte, |buffer| {
-            line(given, &self.list, buffer)
+        let lengths = [self.length, self.colour_length];
+        Played::new(lengths, first_byte, |buffer, colours| {
+            line(given, &self.list, buffer, colours)
         })
     }
 }
@@ -167,7 +190,7 @@ impl RunCase {
 }
 
 /// Makes calls one after another, each given the state that the one before handed back; the first
-/// byte of the first buffer is given, and rises by one from call to call.
+/// byte of the first object buffer is given, and rises by one from call to call.
 pub fn play_chain(given: &State, calls: &[Call], first_byte: usize) -> Vec<Played> {
     let mut state = *given;
     let chain = calls.iter().zip(first_byte..).map(|(call, first_byte)| {
@@ -178,21 +201,24 @@ pub fn play_chain(given: &State, calls: &[Call], first_byte: usize) -> Vec<Playe
     chain.collect()
 }
 
-/// A tape, a place of it, the state given to the call and the length of the buffer lent to it.
+/// A tape, a place of it, the state given to the call and the lengths of the object buffer and of
+/// the colour buffer lent to it.
 #[derive(Clone, Debug, PartialEq, Eq)]
 pub struct TapeCase {
     pub state: State,
     pub length: u8,
+    pub colour_length: u8,
     pub place: u64,
     pub tape: Vec<u8>,
 }
 
 impl TapeCase {
-    /// The call on a state with a buffer of 160 bytes.
+    /// The call on a state with two buffers of 160 bytes.
     pub fn new(state: State, tape: Vec<u8>, place: u64) -> TapeCase {
         TapeCase {
             state,
             length: COLUMNS as u8,
+            colour_length: COLUMNS as u8,
             place,
             tape,
         }
@@ -200,8 +226,9 @@ impl TapeCase {
 
     /// Makes the call of the record with this number.
     pub fn play(&self, number: usize) -> Played<TapeAnswer> {
-        Played::new(self.length, number, |buffer| {
-            play_line(&self.state, &self.tape, self.place, buffer)
+        let lengths = [self.length, self.colour_length];
+        Played::new(lengths, number, |buffer, colours| {
+            play_line(&self.state, &self.tape, self.place, buffer, colours)
         })
     }
 }

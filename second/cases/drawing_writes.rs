@@ -9,7 +9,10 @@ use crate::model::state::State;
 pub fn is_for_drawing(register: Register) -> bool {
     !matches!(
         register,
-        Register::Strobe(_)
+        Register::Colup(_)
+            | Register::Colupf
+            | Register::Colubk
+            | Register::Strobe(_)
             | Register::Motion(_)
             | Register::Hmove
             | Register::Hmclr

@@ -5,6 +5,7 @@ use crate::cases::bench::checks;
 use crate::cases::build_lists::{address_of, playfield_register};
 use crate::cases::case::{Call, LineCase};
 use crate::cases::chip_cases::Group;
+use crate::cases::colour_writes::{set_colours, set_priority, DECIDING};
 use crate::cases::random::Random;
 use crate::cases::random_lists::{
     free_list, hmove_at, list_of_length, put, short_list, unknown_addresses, write_at,
@@ -12,6 +13,7 @@ use crate::cases::random_lists::{
 use crate::cases::random_states::{faulty_states, line_start_state, set_playfield, without_motion};
 use crate::cases::spoil::{
     least_index, resize, spoil, spoil_record, spoil_two_records, BAD_BUFFERS, BAD_LENGTHS,
+    LINE_FAULTS,
 };
 use crate::model::lit::lit_ages;
 use crate::model::registers::KNOWN;
@@ -19,11 +21,12 @@ use crate::model::state::{State, NO_MOTION};
 use crate::model::write_list::ListedWrite;
 
 /// The groups in their order.
-pub const GROUPS: [Group<LineCase>; 7] = [
+pub const GROUPS: [Group<LineCase>; 8] = [
     bench_checks,
     lists,
     states,
     first_columns,
+    colours,
     call_faults,
     record_faults,
     two_faults,
@@ -38,12 +41,12 @@ pub fn other(random: &Random) -> LineCase {
 pub fn random_case(random: &Random, spoilt_in: u8) -> LineCase {
     let mut case = case_with(random, &free_list(random));
     while random.one_in(spoilt_in) {
-        spoil(random, &mut case, random.between(1, 7));
+        spoil(random, &mut case, random.pick(&LINE_FAULTS));
     }
     case
 }
 
-/// A call with a list, without faults of state and buffer.
+/// A call with a list, without faults of state and buffers.
 fn case_with(random: &Random, list: &[ListedWrite]) -> LineCase {
     LineCase {
         state: line_start_state(random),
@@ -168,19 +171,64 @@ fn state_with_column(given: &State, object: usize, column: u8) -> State {
     state
 }
 
-/// Each fault of a whole call alone: each of a state, h not 0, buffers of each refused length, with
-/// a list and without, and lists of each refused length up to 768.
+/// A colour register or CTRLPF written at the edges of the columns and of their halves, with each of
+/// CTRLPF bits 1 and 2, over a playfield that is lit or dark or as it is; in half of the lines the
+/// other objects are dark.
+fn colours(random: &Random, cases: &mut Vec<LineCase>) {
+    let clocks = [0, 67, 68, 69, 75, 76, 146, 147, 148, 149, 226, 227];
+    for (_, register) in DECIDING {
+        for (clock, bits) in clocks
+            .into_iter()
+            .flat_map(|clock| [0, 1, 2, 3].map(|n| (clock, n)))
+        {
+            let mut list = if random.flag() {
+                short_list(random)
+            } else {
+                vec![]
+            };
+            put(&mut list, write_at(random, clock, address_of(register)));
+            let mut case = case_with(random, &list);
+            let registers = &mut case.state.registers;
+            set_priority(registers, bits);
+            set_colours(random, registers);
+            match random.up_to(2) {
+                0 => set_playfield(registers, 0),
+                1 => set_playfield(registers, 255),
+                _ => {}
+            }
+            if random.flag() {
+                registers.grp_new = [0; 2];
+                registers.grp_old = [0; 2];
+                registers.enam = [false; 2];
+                registers.enabl_new = false;
+                registers.enabl_old = false;
+            }
+            cases.push(case);
+        }
+    }
+}
+
+/// Each fault of a whole call alone: each of a state, h not 0, object buffers and colour buffers of
+/// each refused length, also both, with a list and without, and lists of each refused length up to
+/// 768.
 fn call_faults(random: &Random, cases: &mut Vec<LineCase>) {
     let states = faulty_states(random, line_start_state);
     add_changed(random, cases, states, |case, state| case.state = state);
     let clocks = [1, 2, 67, 68, 128, 226, 227].repeat(4);
     add_changed(random, cases, clocks, |case, h| case.state.h = h);
-    add_changed(random, cases, BAD_BUFFERS.repeat(6), |case, length| {
-        case.call.length = length;
-        if random.one_in(3) {
-            case.call.list.clear();
-        }
-    });
+    let buffers: [fn(&mut Call, u8); 3] = [
+        |call, length| call.length = length,
+        |call, length| call.colour_length = length,
+        |call, length| (call.length, call.colour_length) = (length, length),
+    ];
+    for set_length in buffers {
+        add_changed(random, cases, BAD_BUFFERS.repeat(6), |case, length| {
+            set_length(&mut case.call, length);
+            if random.one_in(3) {
+                case.call.list.clear();
+            }
+        });
+    }
     let mut lengths = BAD_LENGTHS.repeat(2);
     lengths.retain(|&length| length <= 768);
     add_changed(random, cases, lengths, |case, length| {
@@ -215,10 +263,11 @@ fn record_faults(random: &Random, cases: &mut Vec<LineCase>) {
 /// Every two faults that can be told apart: the first one of the whole call; in an earlier and a
 /// later record; and in one record.
 fn two_faults(random: &Random, cases: &mut Vec<LineCase>) {
-    for first in [1, 2, 3, 4].repeat(6) {
-        add_changed(random, cases, first + 1..=7, |case, second| {
+    for first in [0, 1, 2, 3, 4].repeat(6) {
+        let later = LINE_FAULTS.into_iter().skip(first + 1);
+        add_changed(random, cases, later, |case, second| {
             spoil(random, case, second);
-            spoil(random, case, first);
+            spoil(random, case, LINE_FAULTS[first]);
         });
     }
     for first in [5, 6, 7].repeat(6) {

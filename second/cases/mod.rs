@@ -5,6 +5,7 @@ pub mod build_lists;
 pub mod build_tapes;
 pub mod case;
 pub mod chip_cases;
+pub mod colour_writes;
 pub mod damage;
 pub mod drawing_writes;
 pub mod line_cases;

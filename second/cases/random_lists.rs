@@ -6,8 +6,10 @@ use crate::model::clock::RegisterWrite;
 use crate::model::registers::{register_at, Register, KNOWN};
 use crate::model::write_list::{ListedWrite, CLOCKS};
 
-/// The addresses of the first writes from the start state: graphics, enables and playfield.
-pub const OPENING: [u8; 8] = [0x1B, 0x1C, 0x1D, 0x1E, 0x1F, 0x0D, 0x0E, 0x0F];
+/// The addresses of the first writes from the start state: graphics, enables, playfield, colours.
+pub const OPENING: [u8; 12] = [
+    0x1B, 0x1C, 0x1D, 0x1E, 0x1F, 0x0D, 0x0E, 0x0F, 0x06, 0x07, 0x08, 0x09,
+];
 
 /// The addresses of the unknown registers, rising.
 pub fn unknown_addresses() -> Vec<u8> {
@@ -113,10 +115,11 @@ pub fn little_lists(random: &Random, most: u8) -> Vec<Vec<u8>> {
     lists.map(|_| little_list(random)).collect()
 }
 
-/// A list with writes to graphics, enables and playfield early in the line, and a strobe of each
-/// object.
+/// A list with writes to graphics, enables, playfield and colours early in the line, and a strobe of
+/// each object.
 pub fn opening_list(random: &Random) -> Vec<ListedWrite> {
-    let clocks = (0..8).chain(rising_clocks(random, 8, 5));
+    let first = OPENING.len() as u8;
+    let clocks = (0..first).chain(rising_clocks(random, first, 5));
     clocks
         .zip(OPENING.into_iter().chain(0x10..=0x14))
         .map(|(clock, address)| write_at(random, clock, address))

@@ -1,4 +1,4 @@
-//! The records of the case file, written and read: one byte for the kind, the 61 bytes of the
+//! The records of the case file, written and read: one byte for the kind, the 65 bytes of the
 //! state, and what a case of that kind has beside it.
 
 use crate::cases::case::{Call, Case, LineCase, RunCase, Single, TapeCase, WaitedWrite, Walk};
@@ -29,22 +29,23 @@ impl Case {
     pub fn write(&self) -> Vec<u8> {
         let (state, rest) = match self {
             Case::Clock(Single { state, write }) => {
-                let write = write.map(|write| [1, write.address, write.value]);
-                (state, write.unwrap_or([0; 3]).to_vec())
+                let write = write.map(|write| [1, write.address, write.value, 0]);
+                (state, write.unwrap_or([0; 4]).to_vec())
             }
             Case::Walk(Walk { state, writes }) => {
                 let bytes = |w: &WaitedWrite| [w.wait, w.write.address, w.write.value];
                 let writes: Vec<u8> = writes.iter().flat_map(bytes).collect();
-                (state, [vec![0; 3], writes].concat())
+                (state, [vec![0; 4], writes].concat())
             }
             Case::Line(LineCase { state, call }) => (state, call_bytes(call)),
             Case::Run(RunCase { state, calls }) => {
                 let calls: Vec<u8> = calls.iter().flat_map(call_bytes).collect();
-                (state, [vec![0; 3], calls].concat())
+                (state, [vec![0; 4], calls].concat())
             }
             Case::Tape(case) => {
                 let place = case.place.to_be_bytes();
-                let rest = [&[case.length], &place[..], &list_bytes(&case.tape)].concat();
+                let lengths = [case.length, case.colour_length];
+                let rest = [&lengths, &place[..], &list_bytes(&case.tape)].concat();
                 (&case.state, rest)
             }
         };
@@ -58,12 +59,12 @@ impl Case {
         let state = from_bytes(&take(file)?);
         Some(match kind {
             0 => {
-                let [has, address, value] = take(file)?;
+                let [has, address, value, _] = take(file)?;
                 let write = (has != 0).then(|| RegisterWrite { address, value });
                 Case::Clock(Single { state, write })
             }
             1 => {
-                let [_, _, _] = take(file)?;
+                take::<4>(file)?;
                 let listed = records(&take::<{ 3 * WALK_WRITES }>(file)?);
                 let writes = array::from_fn(|n| WaitedWrite {
                     wait: listed[n].clock,
@@ -76,16 +77,17 @@ impl Case {
                 Case::Line(LineCase { state, call })
             }
             3 => {
-                let [_, _, _] = take(file)?;
+                take::<4>(file)?;
                 let calls = (0..RUN_CALLS).map(|_| read_call(file));
                 let calls = calls.collect::<Option<Vec<Call>>>()?;
                 Case::Run(RunCase { state, calls })
             }
             4 => {
-                let [length] = take(file)?;
+                let [length, colour_length] = take(file)?;
                 Case::Tape(TapeCase {
                     state,
                     length,
+                    colour_length,
                     place: u64::from_be_bytes(take(file)?),
                     tape: read_list(file)?,
                 })
@@ -95,16 +97,21 @@ impl Case {
     }
 }
 
-/// A line call: the buffer's length, then the list.
+/// A line call: the lengths of the object buffer and of the colour buffer, then the list.
 fn call_bytes(call: &Call) -> Vec<u8> {
-    [vec![call.length], list_bytes(&call.list)].concat()
+    let lengths = vec![call.length, call.colour_length];
+    [lengths, list_bytes(&call.list)].concat()
 }
 
 /// The line call that the file begins with, which is taken off it; none if it is cut.
 fn read_call(file: &mut &[u8]) -> Option<Call> {
-    let [length] = take(file)?;
+    let [length, colour_length] = take(file)?;
     let list = read_list(file)?;
-    Some(Call { length, list })
+    Some(Call {
+        length,
+        colour_length,
+        list,
+    })
 }
 
 /// A write list or a tape, at most 65,535 bytes: its length in two bytes, the higher first, then
@@ -167,14 +174,33 @@ mod tests {
     fn records_are_laid_out_as_the_readme_says() {
         let state = State::START;
         let write = Some(ListedWrite::new(0, 0x0E, 7).write);
-        let list = vec![5; 300];
-        let call = Call { length: 255, list };
-        let list = [&[255, 1, 44], &[5; 300][..]].concat();
-        let tape = TapeCase::new(state, vec![1, 0, 0], 0x0102_0304_0506_07FE);
-        let bytes = vec![160, 1, 2, 3, 4, 5, 6, 7, 0xFE, 0, 3, 1, 0, 0];
+        let call = Call {
+            length: 255,
+            colour_length: 161,
+            list: vec![5; 300],
+        };
+        let list = [&[255, 161, 1, 44], &[5; 300][..]].concat();
+        let mut tape = TapeCase::new(state, vec![1, 0, 0], 0x0102_0304_0506_07FE);
+        tape.colour_length = 7;
+        let bytes = vec![160, 7, 1, 2, 3, 4, 5, 6, 7, 0xFE, 0, 3, 1, 0, 0];
+        let waited = ListedWrite::new(9, 0x0E, 7);
+        let writes = [WaitedWrite {
+            wait: waited.clock,
+            write: waited.write,
+        }; WALK_WRITES];
+        let calls = vec![call.clone(); RUN_CALLS];
         for (case, after_the_state) in [
-            (Case::Clock(Single { state, write }), vec![1, 0x0E, 7]),
-            (Case::Line(LineCase { state, call }), list),
+            (Case::Clock(Single { state, write }), vec![1, 0x0E, 7, 0]),
+            (Case::Clock(Single { state, write: None }), vec![0; 4]),
+            (
+                Case::Walk(Walk { state, writes }),
+                [vec![0; 4], [9, 0x0E, 7].repeat(WALK_WRITES)].concat(),
+            ),
+            (Case::Line(LineCase { state, call }), list.clone()),
+            (
+                Case::Run(RunCase { state, calls }),
+                [vec![0; 4], list.repeat(RUN_CALLS)].concat(),
+            ),
             (Case::Tape(tape), bytes),
         ] {
             assert_eq!(case.write()[1 + LENGTH..], after_the_state);

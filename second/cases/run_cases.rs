@@ -8,7 +8,7 @@ use crate::cases::chip_cases::Group;
 use crate::cases::random::Random;
 use crate::cases::random_lists::{free_list, hmove_at, put, rising_clocks, write_at};
 use crate::cases::random_states::line_start_state;
-use crate::cases::spoil::spoil_call;
+use crate::cases::spoil::{spoil_call, CALL_FAULTS};
 use crate::model::registers::{register_at, Register, Registers, KNOWN};
 use crate::model::state::State;
 use crate::model::write_list::ListedWrite;
@@ -61,14 +61,18 @@ fn failing_runs(random: &Random, runs: &mut Vec<RunCase>) {
     }
 }
 
-/// The calls of a run with these lines; one in so many is refused instead, with 3 to 7.
+/// The calls of a run with these lines; one in so many is refused instead, with 3 to 7 or 11,
+/// at times with two faults.
 fn calls_of(random: &Random, refused_in: u8, line: impl Fn() -> Line) -> Vec<Call> {
     let calls = (0..RUN_CALLS).map(|_| {
         let refused = random.one_in(refused_in);
         let list = if refused { free_list(random) } else { line() };
         let mut call = Call::with(&list);
         if refused {
-            spoil_call(random, &mut call, random.between(3, 7));
+            spoil_call(random, &mut call, random.pick(&CALL_FAULTS));
+            if random.one_in(4) {
+                spoil_call(random, &mut call, random.pick(&CALL_FAULTS));
+            }
         }
         call
     });

@@ -25,9 +25,9 @@ const ENDED: u8 = u8::MAX;
 const REQUIRED: [&[u8]; KINDS.len()] = [
     &[ACCEPTED, 1, 7],
     &[ACCEPTED, 1, 7],
-    &[ACCEPTED, 1, 2, 3, 4, 5, 6, 7],
-    &[ACCEPTED, 3, 4, 5, 6, 7],
-    &[ACCEPTED, 1, 2, 3, 4, 5, 6, 7, 8, 9, ENDED],
+    &[ACCEPTED, 1, 2, 3, 4, 5, 6, 7, 11],
+    &[ACCEPTED, 3, 4, 5, 6, 7, 11],
+    &[ACCEPTED, 1, 2, 3, 4, 5, 6, 7, 8, 9, 11, ENDED],
 ];
 
 /// Writes the records of the sample. Writes nothing and names what is wrong if an outcome does not

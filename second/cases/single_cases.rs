@@ -4,6 +4,9 @@
 use crate::cases::build_lists::address_of;
 use crate::cases::case::Single;
 use crate::cases::chip_cases::Group;
+use crate::cases::colour_writes::{
+    kept_byte, set_colours, set_priority, write_changed_colour, COLOURS, DECIDING,
+};
 use crate::cases::drawing_writes::{is_for_drawing, write_changed_lit};
 use crate::cases::random::Random;
 use crate::cases::random_lists::{known_address, unknown_addresses, write_to};
@@ -18,7 +21,7 @@ use crate::model::registers::{register_at, Register, KNOWN};
 use crate::model::state::State;
 
 /// The groups in their order.
-pub const GROUPS: [Group<Single>; 9] = [
+pub const GROUPS: [Group<Single>; 12] = [
     addresses,
     drawing_registers,
     bad_states,
@@ -28,6 +31,9 @@ pub const GROUPS: [Group<Single>; 9] = [
     lit_edges,
     playfield,
     pairs,
+    lit_combinations,
+    colour_registers,
+    blank_colours,
 ];
 
 /// A single clock with a good state, and a write or none.
@@ -309,4 +315,104 @@ fn make_lit(random: &Random, state: &mut State, object: usize) {
     }
     let (first, last) = lit_ages(state, object);
     set_age(state, object, random.between(first, last - 1));
+}
+
+/// Makes an object or the playfield dark on the next clock.
+fn make_dark(state: &mut State, object: usize) {
+    match object {
+        PF => set_playfield(&mut state.registers, 0),
+        _ => set_age(state, object, 64),
+    }
+}
+
+/// A visible clock at a column on which exactly these objects, a bit each, are lit, with these
+/// CTRLPF bits 1 and 2 and colours that differ.
+fn coloured_state(random: &Random, column: u8, lit: u8, bits: u8) -> State {
+    let mut state = visible_state(random);
+    state.h = 68 + column;
+    state.late = false;
+    for object in 0..6 {
+        match lit >> object & 1 {
+            0 => make_dark(&mut state, object),
+            _ => make_lit(random, &mut state, object),
+        }
+    }
+    set_priority(&mut state.registers, bits);
+    set_colours(random, &mut state.registers);
+    state
+}
+
+/// Each combination of lit objects with each of CTRLPF bits 1 and 2: in column 79, in column 80 and
+/// in one on each side of them.
+fn lit_combinations(random: &Random, singles: &mut Vec<Single>) {
+    for lit in 0..64 {
+        for bits in 0..4 {
+            for column in [random.up_to(78), 79, 80, random.between(81, 159)] {
+                push(singles, coloured_state(random, column, lit, bits), None);
+            }
+        }
+    }
+}
+
+/// A state at a column with any objects lit and any CTRLPF bits 1 and 2.
+fn any_coloured_state(random: &Random, column: u8) -> State {
+    let lit = random.up_to(63) & random.up_to(63);
+    coloured_state(random, column, lit, random.up_to(3))
+}
+
+/// Each colour register and CTRLPF written at columns at the edges and anywhere, on clocks on which
+/// the write changes the colour; COLUP0 and COLUP1 written where the playfield takes one of them; and
+/// each colour register rewritten in bit 0 alone on a clock whose colour it gives.
+fn colour_registers(random: &Random, singles: &mut Vec<Single>) {
+    for (_, register) in DECIDING.repeat(2) {
+        for column in [0, 7, 8, 78, 79, 80, 81, 159, random.up_to(159)] {
+            let mut draws = (0..100).map(|_| Single {
+                state: any_coloured_state(random, column),
+                write: write_of(random, register),
+            });
+            singles.extend(draws.find(|single| {
+                let done = run(&single.state, single.write);
+                done.map_or(false, |done| write_changed_colour(&single.state, &done))
+            }));
+        }
+    }
+    for column in [random.up_to(78), 79, 80, random.between(81, 159)] {
+        for player in 0..2 {
+            let state = coloured_state(random, column, 1 << PF, 0b01);
+            push(singles, state, write_of(random, Register::Colup(player)));
+        }
+    }
+    for (_, register) in COLOURS.repeat(2) {
+        let mut draws = (0..100).map(|_| any_coloured_state(random, random.up_to(159)));
+        let shown = |state: &State| {
+            let byte = kept_byte(&state.registers, register) & 0b1111_1110;
+            run(state, None).map_or(false, |done| done.colour == byte)
+        };
+        if let Some(state) = draws.find(shown) {
+            let write = RegisterWrite {
+                address: address_of(register),
+                value: kept_byte(&state.registers, register) ^ 1,
+            };
+            push(singles, state, Some(write));
+        }
+    }
+}
+
+/// Colours that differ from 0 in the horizontal blank and in blank columns, with nothing lit and
+/// with each object: without a write, and with a colour register or an unknown one written.
+fn blank_colours(random: &Random, singles: &mut Vec<Single>) {
+    for object in 0..=6 {
+        for h in [random.up_to(66), 67, 68, 75, random.between(69, 74)] {
+            let lit = if object < 6 { 1 << object } else { 0 };
+            let mut state = coloured_state(random, 0, lit, random.up_to(3));
+            state.h = h;
+            state.late = h >= 68 || random.flag();
+            push(singles, state, None);
+            let (_, register) = random.pick(&COLOURS);
+            push(singles, state, write_of(random, register));
+            state.h = random.between(76, 227);
+            let unknown = random.pick(&unknown_addresses());
+            push(singles, state, Some(write_to(random, unknown)));
+        }
+    }
 }

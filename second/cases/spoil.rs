@@ -1,4 +1,4 @@
-//! Faults put into calls: into a line call's state, buffer, list and records, and into the tape
+//! Faults put into calls: into a line call's state, buffers, list and records, and into the tape
 //! and the place of a tape call.
 
 use crate::cases::build_lists::list_of;
@@ -10,6 +10,12 @@ use crate::model::tape::stretch;
 use crate::model::write_list::{records, ListedWrite, MOST_BYTES};
 use ReadingFault::{Cut, Empty, Length, LoneByte, PastEnd, PlaceZero, Version};
 
+/// The numbers of the faults of a line call in the order of the checks.
+pub const LINE_FAULTS: [u8; 8] = [1, 2, 3, 11, 4, 5, 6, 7];
+
+/// The numbers of those that the state has no part in, in the order of the checks.
+pub const CALL_FAULTS: [u8; 6] = [3, 11, 4, 5, 6, 7];
+
 /// Lengths of a buffer that are refused, at the edges and between.
 pub const BAD_BUFFERS: [u8; 8] = [0, 1, 64, 100, 159, 161, 200, 255];
 
@@ -19,7 +25,7 @@ pub const BAD_LENGTHS: [u16; 35] = [
     694, 695, 696, 697, 698, 699, 768, 1536, 4096, 32_767, 32_768, 65_533, 65_534, 65_535,
 ];
 
-/// Gives a line call the fault with this number, 1 to 7.
+/// Gives a line call the fault with this number, one of `LINE_FAULTS`.
 pub fn spoil(random: &Random, case: &mut LineCase, fault: u8) {
     match fault {
         1 => case.state = with_fault(random, &case.state),
@@ -28,11 +34,12 @@ pub fn spoil(random: &Random, case: &mut LineCase, fault: u8) {
     }
 }
 
-/// Gives a call the fault with this number, 3 to 7, which its state has no part in.
+/// Gives a call the fault with this number, one of `CALL_FAULTS`.
 pub fn spoil_call(random: &Random, call: &mut Call, fault: u8) {
     let whole = call.list.len() / 3 * 3;
     match fault {
         3 => call.length = random.pick(&BAD_BUFFERS),
+        11 => call.colour_length = random.pick(&BAD_BUFFERS),
         4 => {
             let long = MOST_BYTES + 1 + random.index(15);
             let short = whole + random.pick(&[1, 2]);

@@ -1,4 +1,4 @@
-//! The state as 61 bytes, one a field, flags 0 or 1, in the order of the case file: each field's
+//! The state as 65 bytes, one a field, flags 0 or 1, in the order of the case file: each field's
 //! name, its range for refusal 1 and where the state holds it; and the faults of a state.
 
 use crate::cases::random::Random;
@@ -26,7 +26,7 @@ const fn field(name: &'static str, kind: Kind) -> Field {
 }
 
 /// The number of fields.
-pub const LENGTH: usize = 61;
+pub const LENGTH: usize = 65;
 
 /// The fields, each at the index of its byte.
 pub static FIELDS: [Field; LENGTH] = [
@@ -97,6 +97,10 @@ pub static FIELDS: [Field; LENGTH] = [
     field("VDELP0", Flag(|s| &mut s.registers.vdelp[0])),
     field("VDELP1", Flag(|s| &mut s.registers.vdelp[1])),
     field("VDELBL", Flag(|s| &mut s.registers.vdelbl)),
+    field("COLUP0", Max(255, |s| &mut s.registers.colup[0])),
+    field("COLUP1", Max(255, |s| &mut s.registers.colup[1])),
+    field("COLUPF", Max(255, |s| &mut s.registers.colupf)),
+    field("COLUBK", Max(255, |s| &mut s.registers.colubk)),
 ];
 
 impl Field {

@@ -28,7 +28,7 @@ pub const GROUPS: [Group<TapeCase>; 8] = [
 ];
 
 /// A call at a line of a random tape, at times at any place of it; at times the tape is damaged, at
-/// times state, buffer or line have a fault.
+/// times state, buffers or line have a fault.
 pub fn other(random: &Random) -> TapeCase {
     let mut case = on_tape(random, &random_case(random, 8));
     if random.one_in(5) {
@@ -53,6 +53,7 @@ fn on_tape(random: &Random, line: &LineCase) -> TapeCase {
     }
     case.state = line.state;
     case.length = line.call.length;
+    case.colour_length = line.call.colour_length;
     case
 }
 
@@ -135,10 +136,10 @@ fn places_outside(random: &Random, cases: &mut Vec<TapeCase>) {
     }
 }
 
-/// The ends of tapes, of those without lines too; with a bad state, h not 0 or a wrong buffer as
-/// well as without.
+/// The ends of tapes, of those without lines too; with a bad state, h not 0 or a wrong buffer, object
+/// or colour, as well as without.
 fn ends(random: &Random, cases: &mut Vec<TapeCase>) {
-    for fault in [0, 1, 2, 3].repeat(16) {
+    for fault in [0, 1, 2, 3, 11].repeat(16) {
         let mut line = short_case(random);
         if fault != 0 {
             spoil(random, &mut line, fault);
@@ -203,14 +204,14 @@ fn inner_places(random: &Random, cases: &mut Vec<TapeCase>) {
 }
 
 /// Each fault of reading together with each fault of the line call that it leaves: of state, h and
-/// buffer, and, where the line's bytes are there, of its records; and behind a version that is not
+/// buffers, and, where the line's bytes are there, of its records; and behind a version that is not
 /// 1 each other fault of a tape that is not empty.
 fn two_faults(random: &Random, cases: &mut Vec<TapeCase>) {
     use ReadingFault::{Cut, Empty, Length, Version};
     for fault in ReadingFault::ALL.repeat(6) {
         let numbers: &[u8] = match fault {
-            Version | Length | Cut => &[1, 2, 3, 5, 6, 7],
-            _ => &[1, 2, 3],
+            Version | Length | Cut => &[1, 2, 3, 11, 5, 6, 7],
+            _ => &[1, 2, 3, 11],
         };
         for &number in numbers {
             let mut line = short_case(random);

@@ -1,6 +1,7 @@
 //! Coverage: one table of what the cases must make happen, in the order of the paper, and one loop
 //! that runs every case and counts.
 
+mod colours;
 mod lines;
 mod refusals;
 mod runs;
@@ -16,7 +17,15 @@ use table::Table;
 /// The whole table.
 fn table() -> Table {
     let mut table = Table::default();
-    for add in [refusals::add, steps::add, lines::add, runs::add, tapes::add] {
+    let all: [fn(&mut Table); 6] = [
+        refusals::add,
+        steps::add,
+        lines::add,
+        colours::add,
+        runs::add,
+        tapes::add,
+    ];
+    for add in all {
         add(&mut table);
     }
     table

@@ -2,6 +2,7 @@
 //! tape calls here are of the line which reading finds.
 
 use crate::cases::random_lists::unknown_addresses;
+use crate::cases::spoil::LINE_FAULTS;
 use crate::cases::state_fields::{checked_fields, faults, to_bytes, Fault};
 use crate::coverage::seen::Seen;
 use crate::coverage::table::{named, Table, FEW, MOVABLE};
@@ -67,12 +68,14 @@ fn bad_states(table: &mut Table) {
     }
 }
 
-/// Each refusal by a line call's only fault, and refusals 2 and 3 at the edges.
+/// Each refusal by a line call's only fault, and refusals 2, 3 and 11 at the edges.
 fn whole_calls(table: &mut Table) {
     let [_, _, mut line, _, mut tape] = table.by_kind();
     let only = |seen: &Seen, number| seen.refused_with(number) && seen.line.faults.len() == 1;
-    line.each(10, "{} the only fault", named(1..=7)).when(only);
-    tape.each(10, "{} the only fault of a line", named([1, 2, 3, 5, 6, 7]))
+    line.each(10, "{} the only fault", named(LINE_FAULTS))
+        .when(only);
+    let of_tapes = LINE_FAULTS.into_iter().filter(|&number| number != 4);
+    tape.each(10, "{} the only fault of a line", named(of_tapes))
         .when(only);
     for mut rows in [line, tape.under("line ")] {
         rows.each(3, "refused with 2 at h = {}", named([1, 68, 227]))
@@ -80,6 +83,16 @@ fn whole_calls(table: &mut Table) {
         let lengths = named([0, 1, 159, 161, 255]);
         rows.each(FEW, "refused with 3 for a buffer of {} bytes", lengths)
             .when(|seen, length| seen.refused_with(3) && seen.line.length == length);
+        let lengths = named([0, 1, 159, 161, 255]);
+        let name = "refused with 11 for a colour buffer of {} bytes";
+        rows.each(FEW, name, lengths)
+            .when(|seen, length| seen.refused_with(11) && seen.line.colour_length == length);
+        let name = "refused with 3, both buffers of {} bytes";
+        rows.each(FEW, name, named([0, 1, 159, 161, 255]))
+            .when(|seen, length| {
+                let both = seen.line.length == length && seen.line.colour_length == length;
+                seen.refused_with(3) && both
+            });
     }
 }
 
@@ -142,14 +155,15 @@ fn unknown_registers(table: &mut Table) {
 /// fault before the register's in one record.
 fn orders(table: &mut Table) {
     let [_, _, mut line, _, mut tape] = table.by_kind();
-    for first in 1..=4 {
+    for (n, first) in LINE_FAULTS.into_iter().take(5).enumerate() {
         let before = move |seen: &Seen, second| {
             seen.refused_with(first) && seen.has(|fault| fault.number == second)
         };
         let name = format!("refused with {first}, {{}} present");
-        line.each(FEW, &name, named(first + 1..=7)).when(before);
-        if first < 4 {
-            let later = (first + 1..=7).filter(|&second| second != 4);
+        let later = || LINE_FAULTS.into_iter().skip(n + 1);
+        line.each(FEW, &name, named(later())).when(before);
+        if first != 4 {
+            let later = later().filter(|&second| second != 4);
             let mut tape = tape.under("line ");
             tape.each(FEW, &name, named(later)).when(before);
         }

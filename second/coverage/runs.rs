@@ -1,6 +1,7 @@
 //! The rows for runs: first states, refused calls, what goes on from call to call, and demand 3:
 //! its claims, and its premises at their edges.
 
+use crate::cases::spoil::CALL_FAULTS;
 use crate::coverage::seen::{Seen, SeenCall};
 use crate::coverage::table::{named, Rows, Table, FEW, MOVABLE};
 use crate::model::registers::{register_at, Register};
@@ -76,8 +77,17 @@ fn first_states(rows: &mut Rows) {
 /// Calls refused in every way that a good first state with h = 0 leaves, and states that a call is
 /// given by the one before.
 fn calls(rows: &mut Rows) {
-    rows.each(50, "call refused with {}", named(3..=7))
+    rows.each(50, "call refused with {}", named(CALL_FAULTS))
         .when(|seen, number| some_call(seen, false, |call| call.number == number));
+    for (n, first) in CALL_FAULTS.into_iter().take(3).enumerate() {
+        let later = CALL_FAULTS.into_iter().skip(n + 1);
+        let name = format!("call refused with {first}, {{}} present");
+        rows.each(FEW, &name, named(later))
+            .when(move |seen, second| {
+                let has = |call: &SeenCall| call.faults.iter().any(|fault| fault.number == second);
+                some_call(seen, false, |call| call.number == first && has(call))
+            });
+    }
     rows.row(50, "call given the late flag set")
         .when(|seen| seen.line.calls.iter().any(|call| call.given.late));
     for (times, how, accepted) in [(50, "accepted", true), (FEW, "refused", false)] {

@@ -2,11 +2,11 @@
 //! it was given and what came of it.
 
 use crate::cases::build_tapes::line_places;
-use crate::cases::case::{LineCase, RunCase, TapeCase};
+use crate::cases::case::{Call, LineCase, Played, RunCase, TapeCase};
 use crate::cases::spoil::ReadingFault;
 use crate::model::clock::{run, Done, RegisterWrite};
 use crate::model::first_lit::first_lit;
-use crate::model::line_faults::line_faults;
+use crate::model::line_faults::{line_faults, Lengths};
 use crate::model::object::is_start;
 use crate::model::refusal::Refusal;
 use crate::model::registers::Register;
@@ -49,22 +49,28 @@ pub struct ClockPart {
 }
 
 /// Line calls: that of a line, that of a tape where reading finds a line, a run's own. For a line
-/// and a tape also the length of the buffer lent, the line's bytes that are there, and all faults
-/// with them. The buffer is as the call returns, for a run that of its second line without writes.
+/// and a tape also the lengths of the object buffer and the colour buffer lent, the line's bytes that
+/// are there, and all faults with them. The buffers are as the call returns, for a run those of its
+/// second line without writes.
 #[derive(Default)]
 pub struct LinePart {
     pub calls: Vec<SeenCall>,
     pub length: u8,
+    pub colour_length: u8,
     pub list: Vec<u8>,
     pub faults: Vec<Refusal>,
     pub buffer: Vec<u8>,
+    pub colours: Vec<u8>,
 }
 
-/// A line call: the state given to it, its records and its refusal's number.
+/// A line call: the state given to it, its records, its refusal's number, all its faults and the
+/// colour buffer as it returns.
 pub struct SeenCall {
     pub given: State,
     pub records: Line,
     pub number: u8,
+    pub faults: Vec<Refusal>,
+    pub colours: Vec<u8>,
 }
 
 /// The tape, the place given and the one handed back; the fault for which reading is refused; the
@@ -118,8 +124,9 @@ impl Seen {
         let played = case.call.play(&case.state, number);
         let answer = played.answer;
         (seen.number, seen.record, seen.after) = (answer.number, answer.record, answer.state);
-        seen.set_line(case.call.length, &case.call.list, played.buffer);
-        seen.add_call(&case.state, &case.call.list, answer.number);
+        seen.set_line(&case.call);
+        seen.set_buffers(&played);
+        seen.add_call(&case.state, &case.call, answer.number, &played.colours);
         seen
     }
 
@@ -130,10 +137,10 @@ impl Seen {
         seen.after = played.second_quiet().answer.state;
         for (call, played) in run.calls.iter().zip(played.own()) {
             let given = seen.after;
-            seen.add_call(&given, &call.list, played.answer.number);
+            seen.add_call(&given, call, played.answer.number, &played.colours);
             seen.after = played.answer.state;
         }
-        seen.line.buffer = played.second_quiet().buffer.clone();
+        seen.set_buffers(played.second_quiet());
         seen.findings = (0..5).map(|object| played.find(object)).collect();
         seen
     }
@@ -145,9 +152,17 @@ impl Seen {
         let answer = played.answer;
         (seen.number, seen.record, seen.after) = (answer.number, answer.record, answer.state);
         let (length, there) = line_bytes(&case.tape, case.place);
-        seen.set_line(case.length, there, played.buffer);
+        let call = Call {
+            length: case.length,
+            colour_length: case.colour_length,
+            list: there.to_vec(),
+        };
+        seen.set_line(&call);
+        seen.set_buffers(&played);
         match read(&case.tape, case.place) {
-            Ok(Reading::Line { .. }) => seen.add_call(&case.state, there, answer.number),
+            Ok(Reading::Line { .. }) => {
+                seen.add_call(&case.state, &call, answer.number, &played.colours);
+            }
             Err(refusal) if refusal.number == answer.number => {
                 seen.tape.fault = reading_fault(&case.tape, case.place);
             }
@@ -164,20 +179,29 @@ impl Seen {
         seen
     }
 
-    /// Sets what a line call and a tape call have: lengths, the line's bytes, the buffer after.
-    fn set_line(&mut self, length: u8, list: &[u8], buffer: Vec<u8>) {
-        self.line.length = length;
-        self.line.list = list.to_vec();
-        self.line.faults = line_faults(&self.given, list, usize::from(length));
-        self.line.buffer = buffer;
+    /// Sets what a line call and a tape call have: the lengths of their two buffers, the line's
+    /// bytes, the faults.
+    fn set_line(&mut self, call: &Call) {
+        self.line.length = call.length;
+        self.line.colour_length = call.colour_length;
+        self.line.list = call.list.clone();
+        self.line.faults = faults_of(&self.given, call);
     }
 
-    /// Adds a line call.
-    fn add_call(&mut self, given: &State, list: &[u8], number: u8) {
+    /// Sets the object buffer and the colour buffer after a call.
+    fn set_buffers<A>(&mut self, played: &Played<A>) {
+        self.line.buffer = played.buffer.clone();
+        self.line.colours = played.colours.clone();
+    }
+
+    /// Adds a line call, with its refusal's number and its colour buffer after it.
+    fn add_call(&mut self, given: &State, call: &Call, number: u8, colours: &[u8]) {
         self.line.calls.push(SeenCall {
             given: *given,
-            records: records(list),
+            records: records(&call.list),
             number,
+            faults: faults_of(given, call),
+            colours: colours.to_vec(),
         });
     }
 
@@ -308,6 +332,15 @@ impl Seen {
         let border = place == after || self.begins_line(place);
         (1..=tape.len() as u64).contains(&place) && !border
     }
+}
+
+/// All faults of a line call.
+fn faults_of(given: &State, call: &Call) -> Vec<Refusal> {
+    let lengths = Lengths {
+        objects: usize::from(call.length),
+        colours: usize::from(call.colour_length),
+    };
+    line_faults(given, &call.list, lengths)
 }
 
 /// The length that stands at a place of a tape and the line's bytes that are there; 0 and none if

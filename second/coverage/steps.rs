@@ -72,6 +72,7 @@ fn kept_bits(register: Register) -> u8 {
         Register::Pf0 | Register::Motion(_) => 0b1111_0000,
         Register::Enam(_) | Register::Enabl => 0b0000_0010,
         Register::Vdelp(_) | Register::Vdelbl => 0b0000_0001,
+        Register::Colup(_) | Register::Colupf | Register::Colubk => 0b1111_1111,
         Register::Ctrlpf | Register::Pf1 | Register::Pf2 | Register::Grp(_) => 0b1111_1111,
         Register::Strobe(_) | Register::Hmove | Register::Hmclr | Register::Cxclr => 0,
     }

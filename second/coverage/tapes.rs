@@ -96,7 +96,7 @@ fn ends(rows: &mut Rows) {
     let after = [(", version byte alone", true), (" after lines", false)];
     rows.each(FEW, "ended{}", after)
         .when(|seen, first| seen.ended() && seen.is_first() == first);
-    rows.each(FEW, "ended, {} present", named([1, 2, 3]))
+    rows.each(FEW, "ended, {} present", named([1, 2, 3, 11]))
         .when(|seen, number| seen.ended() && seen.has(|fault| fault.number == number));
     rows.row(10, "ended, no fault")
         .when(|seen| seen.ended() && seen.line.faults.is_empty());
@@ -133,13 +133,13 @@ fn inner_places(rows: &mut Rows) {
         .when(|seen, number| seen.refused_with(number) && seen.is_inner());
 }
 
-/// Reading's refusals before the line's: each with each fault of state, h and buffer, and of the
+/// Reading's refusals before the line's: each with each fault of state, h and buffers, and of the
 /// records where the line's bytes are there; the version before every other fault of reading.
 fn reading_orders(rows: &mut Rows) {
     for fault in ReadingFault::ALL {
         let present = match fault {
-            Version | Length | Cut => vec![1, 2, 3, 5, 6, 7],
-            Empty | PlaceZero | PastEnd | LoneByte => vec![1, 2, 3],
+            Version | Length | Cut => vec![1, 2, 3, 11, 5, 6, 7],
+            Empty | PlaceZero | PastEnd | LoneByte => vec![1, 2, 3, 11],
         };
         let name = format!("{fault:?} refused, {{}} present");
         rows.each(FEW, &name, named(present))

@@ -1,5 +1,6 @@
 //! One colour clock: refusals 1 and 7, then the eleven steps in the paper's order.
 
+use crate::model::colour::colour;
 use crate::model::latches::set_latches;
 use crate::model::lit::lit;
 use crate::model::object::{is_start, size_of_copies, BL, P0, P1};
@@ -20,6 +21,7 @@ pub struct Answer {
     pub number: u8,
     pub record: usize,
     pub byte: u8,
+    pub colour: u8,
     pub state: State,
 }
 
@@ -42,6 +44,8 @@ pub struct Done {
     pub lit: [bool; 6],
     /// Step 10: the answer byte.
     pub byte: u8,
+    /// Request One: the colour.
+    pub colour: u8,
     /// The state after step 11.
     pub state: State,
 }
@@ -55,19 +59,21 @@ pub struct Motion {
 }
 
 /// The answer of a single clock with a write or none. Refuses (1) a bad state, then (7) an
-/// unknown register: the answer is then the given state and byte 0.
+/// unknown register: the answer is then the given state, byte 0 and colour 0.
 pub fn clock(given: &State, write: Option<RegisterWrite>) -> Answer {
     match run(given, write) {
         Ok(done) => Answer {
             number: 0,
             record: 0,
             byte: done.byte,
+            colour: done.colour,
             state: done.state,
         },
         Err(refusal) => Answer {
             number: refusal.number,
             record: refusal.record,
             byte: 0,
+            colour: 0,
             state: *given,
         },
     }
@@ -116,6 +122,7 @@ fn steps(given: &State, write: Option<(Register, u8)>) -> Done {
     let lit = lit(&state);
     // Step 10.
     let byte = answer_byte(state.h, blank, &lit);
+    let colour = answer_colour(&state, blank, &lit);
     if !blank {
         set_latches(&mut state.latches, &lit);
     }
@@ -133,6 +140,7 @@ fn steps(given: &State, write: Option<(Register, u8)>) -> Done {
         started,
         lit,
         byte,
+        colour,
         state,
     }
 }
@@ -214,6 +222,15 @@ fn pulse_and_strobe(state: &mut State, n: usize, pulsed: bool, strobed: bool) ->
         }
     }
     started
+}
+
+/// Request One: the colour, 0 in the horizontal blank and for a blank column.
+fn answer_colour(state: &State, blank: bool, lit: &[bool; 6]) -> u8 {
+    if blank {
+        0
+    } else {
+        colour(&state.registers, lit, state.h - 68)
+    }
 }
 
 /// Step 10: the answer byte.

@@ -1,18 +1,25 @@
-//! The faults of a line call in the order of the checks, refusals 1 to 7: the first of them is
-//! the call's refusal.
+//! The faults of a line call in the order of the checks, refusals 1 to 7 and 11: the first of
+//! them is the call's refusal.
 
 use crate::model::refusal::Refusal;
 use crate::model::registers::register_at;
 use crate::model::state::State;
 use crate::model::write_list::{is_list_length, records, ListedWrite, CLOCKS};
 
-/// The number of bytes of a line's buffer: one a column.
+/// The number of bytes of each of a line's two buffers: one a column.
 pub const COLUMNS: usize = 160;
 
-/// All faults of a call with this state, write list and length of the buffer: those of the whole
+/// The lengths of the two buffers lent to a line: for object bytes and for colour bytes.
+#[derive(Clone, Copy, Debug, PartialEq, Eq)]
+pub struct Lengths {
+    pub objects: usize,
+    pub colours: usize,
+}
+
+/// All faults of a call with this state, write list and lengths of the buffers: those of the whole
 /// call, then those of the records, one record after another.
-pub fn line_faults(given: &State, list: &[u8], length: usize) -> Vec<Refusal> {
-    let mut faults = call_faults(given, list, length);
+pub fn line_faults(given: &State, list: &[u8], lengths: Lengths) -> Vec<Refusal> {
+    let mut faults = call_faults(given, list, lengths);
     let mut before = None;
     for (index, record) in records(list).into_iter().enumerate() {
         for number in record_faults(record, before) {
@@ -26,9 +33,10 @@ pub fn line_faults(given: &State, list: &[u8], length: usize) -> Vec<Refusal> {
     faults
 }
 
-/// The faults of the whole call: (1) a bad state, (2) h not 0, (3) a buffer not of 160 bytes,
-/// (4) a list of a length that is no multiple of 3 or over 684.
-fn call_faults(given: &State, list: &[u8], length: usize) -> Vec<Refusal> {
+/// The faults of the whole call: (1) a bad state, (2) h not 0, (3) a line buffer not of 160 bytes,
+/// (11) a colour buffer not of 160 bytes, (4) a list of a length that is no multiple of 3 or over
+/// 684.
+fn call_faults(given: &State, list: &[u8], lengths: Lengths) -> Vec<Refusal> {
     let mut faults = Vec::new();
     if let Err(refusal) = given.check() {
         faults.push(refusal);
@@ -36,8 +44,11 @@ fn call_faults(given: &State, list: &[u8], length: usize) -> Vec<Refusal> {
     if given.h != 0 {
         faults.push(Refusal::without_record(2));
     }
-    if length != COLUMNS {
+    if lengths.objects != COLUMNS {
         faults.push(Refusal::without_record(3));
+    }
+    if lengths.colours != COLUMNS {
+        faults.push(Refusal::without_record(11));
     }
     if !is_list_length(list.len()) {
         faults.push(Refusal::without_record(4));

@@ -25,7 +25,7 @@ pub fn listing(tape: &[u8]) -> String {
     let replay = replay(tape);
     let mut text = format!("line {}\n", NAMES.join(" "));
     for (number, bytes) in replay.lines.iter().enumerate() {
-        text += &row(number, bytes);
+        text += &row(number, &bytes.objects);
     }
     text += &match replay.end {
         Ok(state) => latches_text(read_out(&state).unwrap_or_default()),

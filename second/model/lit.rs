@@ -107,6 +107,6 @@ fn left_half_bit(registers: &Registers, bit: u8) -> bool {
 }
 
 /// Whether bit 0 to 7 of a byte is 1.
-fn is_set(byte: u8, bit: u8) -> bool {
+pub fn is_set(byte: u8, bit: u8) -> bool {
     byte >> bit & 1 == 1
 }

@@ -1,4 +1,5 @@
-//! The model: the chip of document 01, to be read with the paper in this order.
+//! The model: the chip of document 01 with the colour of document 02, request One, to be read with
+//! the papers in this order.
 //!
 //! - `refusal`: a refusal's number and record index (Refusal numbers, the closing sentence).
 //! - `counter`: The six-bit counter, with refusal 10 of its calls.
@@ -8,29 +9,31 @@
 //! - `registers`: Registers, what a write keeps of a value, the copies of GRP0 and GRP1.
 //! - `clock`: One clock, steps 1 to 11 in order, with refusals 1 and 7 of a single clock.
 //! - `lit`: steps 8 and 9, what is lit.
+//! - `colour`: request One, the colour of a column.
 //! - `latches`: the pairs of step 10 and the latch read-out.
 //! - `write_list`: A line and a tape, the write list's length and its records.
-//! - `line_faults`: refusals 1 to 7 of a line in the order of checks.
-//! - `line`: a line's 228 clocks and its buffer.
+//! - `line_faults`: refusals 1 to 7 and 11 of a line in the order of checks.
+//! - `line`: a line's 228 clocks and its two buffers.
 //! - `tape`: reading a tape, with its refusals 8, 9, 4, 9, and the stretch.
 //! - `first_lit`: the first lit column, with refusals 3 and 10.
 //! - `replay`: playing one line of a tape, and a whole tape from the start state.
 //! - `listing`: the listing program of Bench checks.
 //! - `input`: standard input, read up to one byte past the longest tape.
-//! - `object_bytes`: the answer bytes of a tape's lines, raw; the paper has no such program, it is
-//!   there to compare with.
+//! - `line_bytes`: the object bytes and colour bytes of a tape's lines, raw; the papers have no such
+//!   program, it is there to compare with.
 
 pub mod clock;
+pub mod colour;
 pub mod counter;
 pub mod first_lit;
 pub mod input;
 pub mod latches;
 pub mod line;
+pub mod line_bytes;
 pub mod line_faults;
 pub mod listing;
 pub mod lit;
 pub mod object;
-pub mod object_bytes;
 pub mod refusal;
 pub mod registers;
 pub mod replay;

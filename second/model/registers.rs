@@ -1,5 +1,5 @@
-//! The registers: their addresses, what the state holds of those that are kept for drawing, and
-//! what a write to one of these sets.
+//! The registers: their addresses, what the state holds of those that are kept for drawing and for
+//! colour, and what a write to one of these sets.
 
 use crate::model::object::{BL, M0, M1, P0, P1};
 
@@ -7,6 +7,9 @@ use crate::model::object::{BL, M0, M1, P0, P1};
 #[derive(Clone, Copy, Debug, PartialEq, Eq)]
 pub enum Register {
     Nusiz(usize),
+    Colup(usize),
+    Colupf,
+    Colubk,
     Ctrlpf,
     Refp(usize),
     Pf0,
@@ -25,9 +28,13 @@ pub enum Register {
 }
 
 /// The known registers: address, name, register.
-pub const KNOWN: [(u8, &str, Register); 29] = [
+pub const KNOWN: [(u8, &str, Register); 33] = [
     (0x04, "NUSIZ0", Register::Nusiz(0)),
     (0x05, "NUSIZ1", Register::Nusiz(1)),
+    (0x06, "COLUP0", Register::Colup(0)),
+    (0x07, "COLUP1", Register::Colup(1)),
+    (0x08, "COLUPF", Register::Colupf),
+    (0x09, "COLUBK", Register::Colubk),
     (0x0A, "CTRLPF", Register::Ctrlpf),
     (0x0B, "REFP0", Register::Refp(0)),
     (0x0C, "REFP1", Register::Refp(1)),
@@ -70,6 +77,9 @@ pub fn register_at(address: u8) -> Option<Register> {
 pub struct Registers {
     pub copies: [u8; 2],
     pub width_codes: [u8; 2],
+    pub colup: [u8; 2],
+    pub colupf: u8,
+    pub colubk: u8,
     pub ctrlpf: u8,
     pub refp: [bool; 2],
     pub pf0: u8,
@@ -89,6 +99,9 @@ impl Registers {
     pub const START: Registers = Registers {
         copies: [0, 0],
         width_codes: [0, 0],
+        colup: [0, 0],
+        colupf: 0,
+        colubk: 0,
         ctrlpf: 0,
         refp: [false, false],
         pf0: 0,
@@ -128,6 +141,9 @@ impl Registers {
                 self.copies[n] = value & 0b0000_0111;
                 self.width_codes[n] = (value & 0b0011_0000) >> 4;
             }
+            Register::Colup(n) => self.colup[n] = value,
+            Register::Colupf => self.colupf = value,
+            Register::Colubk => self.colubk = value,
             Register::Ctrlpf => self.ctrlpf = value,
             Register::Refp(n) => self.refp[n] = value & 0b0000_1000 != 0,
             Register::Pf0 => self.pf0 = value >> 4,

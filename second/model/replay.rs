@@ -18,8 +18,14 @@ pub struct TapeAnswer {
 
 /// The answer of playing the line at a place of a tape. Refuses what reading refuses there, then
 /// what the line call refuses. Refused, or at the tape's end, the answer is the given state, and
-/// the buffer stays as it is.
-pub fn play_line(given: &State, tape: &[u8], place: u64, buffer: &mut [u8]) -> TapeAnswer {
+/// both buffers stay as they are.
+pub fn play_line(
+    given: &State,
+    tape: &[u8],
+    place: u64,
+    objects: &mut [u8],
+    colours: &mut [u8],
+) -> TapeAnswer {
     match read(tape, place) {
         Err(refusal) => TapeAnswer {
             number: refusal.number,
@@ -34,7 +40,7 @@ pub fn play_line(given: &State, tape: &[u8], place: u64, buffer: &mut [u8]) -> T
             state: *given,
         },
         Ok(Reading::Line { start, end }) => {
-            let answer = line(given, &tape[start..end], buffer);
+            let answer = line(given, &tape[start..end], objects, colours);
             TapeAnswer {
                 number: answer.number,
                 record: answer.record,
@@ -45,11 +51,18 @@ pub fn play_line(given: &State, tape: &[u8], place: u64, buffer: &mut [u8]) -> T
     }
 }
 
+/// The bytes of a line that was run: its object bytes and its colour bytes.
+#[derive(Clone, Copy, Debug, PartialEq, Eq)]
+pub struct LineBytes {
+    pub objects: [u8; COLUMNS],
+    pub colours: [u8; COLUMNS],
+}
+
 /// A tape that was replayed: the bytes of each line that was run, and the state after the last, or
 /// the refusal of the line after them.
 #[derive(Clone, Debug, PartialEq, Eq)]
 pub struct Replay {
-    pub lines: Vec<[u8; COLUMNS]>,
+    pub lines: Vec<LineBytes>,
     pub end: Result<State, Refusal>,
 }
 
@@ -59,8 +72,12 @@ pub fn replay(tape: &[u8]) -> Replay {
     let mut state = State::START;
     let mut place = FIRST_PLACE;
     loop {
-        let mut buffer = [0; COLUMNS];
-        let answer = play_line(&state, tape, place, &mut buffer);
+        let mut bytes = LineBytes {
+            objects: [0; COLUMNS],
+            colours: [0; COLUMNS],
+        };
+        let (objects, colours) = (&mut bytes.objects, &mut bytes.colours);
+        let answer = play_line(&state, tape, place, objects, colours);
         if answer.number != 0 {
             let refusal = Refusal {
                 number: answer.number,
@@ -77,7 +94,7 @@ pub fn replay(tape: &[u8]) -> Replay {
                 end: Ok(answer.state),
             };
         }
-        lines.push(buffer);
+        lines.push(bytes);
         state = answer.state;
         place = answer.place;
     }

@@ -55,20 +55,22 @@ fn read_out_of(state: &State) -> (u8, usize, [u8; 8]) {
 /// A single clock: its answer and the read-out after it.
 fn clock_fields(single: &Single) -> String {
     let answer = single.play();
-    let (number, record, byte) = (answer.number, answer.record, answer.byte);
+    let (number, record) = (answer.number, answer.record);
+    let (byte, colour) = (answer.byte, answer.colour);
     let state = state_digest(&answer.state);
     let (refused, at, bytes) = read_out_of(&answer.state);
     let bytes = u64::from_be_bytes(bytes);
-    format!("{number} {record} {byte} {state} {refused} {at} {bytes:016x}")
+    format!("{number} {record} {byte} {colour} {state} {refused} {at} {bytes:016x}")
 }
 
-/// A walk: for each clock number, record, answer byte, state, and number, record and bytes of the
-/// read-out. A record's index, 0 at a single clock, is one byte.
+/// A walk: for each clock number, record, answer byte, colour, state, and number, record and bytes of
+/// the read-out. A record's index, 0 at a single clock, is one byte.
 fn walk_digest(walk: &Walk) -> Digest {
     let mut digest = Digest::new();
     for answer in walk.play() {
         let (number, record, bytes) = read_out_of(&answer.state);
-        digest.add(&[answer.number, answer.record as u8, answer.byte]);
+        digest.add(&[answer.number, answer.record as u8]);
+        digest.add(&[answer.byte, answer.colour]);
         digest.add(&to_bytes(&answer.state));
         digest.add(&[number, record as u8]);
         digest.add(&bytes);
@@ -76,7 +78,8 @@ fn walk_digest(walk: &Walk) -> Digest {
     digest
 }
 
-/// A line call: its answer, its bytes and the first lit columns in them.
+/// A line call: its answer, its object bytes and colour bytes, and the first lit columns in the object
+/// bytes.
 fn line_fields(number: usize, case: &LineCase) -> String {
     let played = case.play(number);
     let columns = OBJECTS.map(|object| {
@@ -85,11 +88,12 @@ fn line_fields(number: usize, case: &LineCase) -> String {
     });
     let (number, record) = (played.answer.number, played.answer.record);
     let state = state_digest(&played.answer.state);
-    let bytes = Digest::of(&played.buffer);
-    format!("{number} {record} {state} {bytes} {}", columns.join(" "))
+    let [bytes, colours] = [&played.buffer, &played.colours].map(|bytes| Digest::of(bytes));
+    let columns = columns.join(" ");
+    format!("{number} {record} {state} {bytes} {colours} {columns}")
 }
 
-/// A run: for each call number, record, state and buffer. A record's index, at most 227, is one
+/// A run: for each call number, record, state, object buffer and colour buffer. A record's index, at most 227, is one
 /// byte.
 fn run_digest(number: usize, run: &RunCase) -> Digest {
     let mut digest = Digest::new();
@@ -97,6 +101,7 @@ fn run_digest(number: usize, run: &RunCase) -> Digest {
         digest.add(&[played.answer.number, played.answer.record as u8]);
         digest.add(&to_bytes(&played.answer.state));
         digest.add(&played.buffer);
+        digest.add(&played.colours);
     }
     digest
 }
@@ -113,8 +118,10 @@ fn tape_fields(number: usize, case: &TapeCase) -> String {
     let played = case.play(number);
     let answer = played.answer;
     let (number, record, place) = (answer.number, answer.record, answer.place);
-    let [state, bytes] = [state_digest(&answer.state), Digest::of(&played.buffer)];
-    format!("{refused} {start} {end} {stretch} {number} {record} {place} {state} {bytes}")
+    let state = state_digest(&answer.state);
+    let [bytes, colours] = [&played.buffer, &played.colours].map(|bytes| Digest::of(bytes));
+    let reading = format!("{refused} {start} {end} {stretch}");
+    format!("{reading} {number} {record} {place} {state} {bytes} {colours}")
 }
 
 #[cfg(test)]
@@ -137,9 +144,11 @@ mod tests {
     /// The fields of the two objects that are none.
     const NO_OBJECTS: &str = "refused(10,0) refused(10,0)";
 
-    /// The digest of the buffer that record 0 lends.
-    fn lent() -> Digest {
-        Digest::of(&(0..160).collect::<Vec<u8>>())
+    /// The digests of the two buffers that record 0 lends.
+    fn lent() -> [Digest; 2] {
+        let objects: Vec<u8> = (0..160).collect();
+        let colours: Vec<u8> = (100..=255).chain(0..4).collect();
+        [Digest::of(&objects), Digest::of(&colours)]
     }
 
     /// The start state after a line in which each object passed a start: age 0 at position 0.
@@ -157,8 +166,21 @@ mod tests {
             h: 1,
             ..ALL_LATCHED.state
         });
-        let expected = format!("clock 3 0 0 128 {after} 0 0 c0c0c0c0c0c080c0");
+        let expected = format!("clock 3 0 0 128 0 {after} 0 0 c0c0c0c0c0c080c0");
         assert_eq!(row(3, &Case::Clock(ALL_LATCHED)), expected);
+    }
+
+    #[test]
+    fn a_clock_gives_its_colour() {
+        let mut state = State {
+            h: 100,
+            ..State::START
+        };
+        state.registers.colubk = 0x9F;
+        let single = Single { state, write: None };
+        let after = state_digest(&single.play().state);
+        let expected = format!("clock 0 0 0 0 158 {after} 0 0 0000000000000000");
+        assert_eq!(row(0, &Case::Clock(single)), expected);
     }
 
     #[test]
@@ -169,7 +191,7 @@ mod tests {
         let writes = [WaitedWrite { wait: 0, write }; WALK_WRITES];
         let mut digest = Digest::new();
         for _ in 0..1000 {
-            digest.add(&[1, 0, 0]);
+            digest.add(&[1, 0, 0, 0]);
             digest.add(&to_bytes(&state));
             digest.add(&[1, 0, 0, 0, 0, 0, 0, 0, 0, 0]);
         }
@@ -186,14 +208,18 @@ mod tests {
         };
         let mut after = after_a_line();
         after.registers.pf1 = 255;
-        let mut bytes = [0; 160];
-        bytes[32..48].fill(32);
-        bytes[96..128].fill(32);
-        let [state, bytes] = [state_digest(&after), Digest::of(&bytes)];
-        let expected = format!("line 0 0 0 {state} {bytes} - - - - - 32 {NO_OBJECTS}");
-        assert_eq!(row_of(&[(100, 0x0E, 255)]), expected);
-        let [state, bytes] = [state_digest(&State::START), lent()];
-        let expected = format!("line 0 7 1 {state} {bytes} 1 2 4 8 16 32 {NO_OBJECTS}");
+        after.registers.colupf = 0x47;
+        let (mut bytes, mut colours) = ([0; 160], [0; 160]);
+        for lit in [32..48, 96..128] {
+            bytes[lit.clone()].fill(32);
+            colours[lit].fill(0x46);
+        }
+        let [bytes, colours] = [Digest::of(&bytes), Digest::of(&colours)];
+        let state = state_digest(&after);
+        let expected = format!("line 0 0 0 {state} {bytes} {colours} - - - - - 32 {NO_OBJECTS}");
+        assert_eq!(row_of(&[(9, 0x08, 0x47), (100, 0x0E, 255)]), expected);
+        let (state, [bytes, colours]) = (state_digest(&State::START), lent());
+        let expected = format!("line 0 7 1 {state} {bytes} {colours} 1 2 4 8 16 32 {NO_OBJECTS}");
         assert_eq!(row_of(&[(8, 0x2A, 0), (9, 0, 0)]), expected);
     }
 
@@ -202,32 +228,45 @@ mod tests {
         let lines = [vec![], records_of(&[(5, 0x2A, 0), (5, 0x2A, 0)])];
         let mut run = RunCase::of_lines(State::START, &lines);
         run.calls[0].length = 3;
+        run.calls[0].colour_length = 2;
+        run.calls[2].colour_length = 3;
+        let rising = |first: u8, length| -> Vec<u8> {
+            let bytes = (0..length).map(|n| first.wrapping_add(n));
+            bytes.collect()
+        };
         let mut digest = Digest::new();
         for call in 0..24 {
-            let (number, record, bytes): (u8, u8, Vec<u8>) = match call {
-                2 => (3, 0, vec![72, 73, 74]),
-                3 => (6, 1, (73..73 + 160).collect()),
-                _ => (0, 0, vec![0; 160]),
+            let (number, record, bytes, colours) = match call {
+                2 => (3, 0, rising(72, 3), rising(172, 2)),
+                3 => (6, 1, rising(73, 160), rising(173, 160)),
+                4 => (11, 0, rising(74, 160), rising(174, 3)),
+                _ => (0, 0, vec![0; 160], vec![0; 160]),
             };
             digest.add(&[number, record]);
             digest.add(&to_bytes(&after_a_line()));
             digest.add(&bytes);
+            digest.add(&colours);
         }
         assert_eq!(row(70, &Case::Run(run)), format!("run 70 {digest}"));
     }
 
     #[test]
     fn a_tape_is_its_reading_and_the_answer_of_playing() {
-        let [given, lent] = [state_digest(&State::START), lent()];
-        let [after, dark] = [state_digest(&after_a_line()), Digest::of(&[0; 160])];
+        let [given, after] = [state_digest(&State::START), state_digest(&after_a_line())];
+        let (dark, [lent, colours]) = (Digest::of(&[0; 160]), lent());
         for (place, expected) in [
-            (9, format!("0 11 11 00000000 0 0 11 {after} {dark}")),
-            (21, format!("0 0 0 00000000 0 0 0 {given} {lent}")),
-            (2, format!("4 0 0 00000000 4 0 0 {given} {lent}")),
+            (9, format!("0 11 11 00000000 0 0 11 {after} {dark} {dark}")),
+            (21, format!("0 0 0 00000000 0 0 0 {given} {lent} {colours}")),
+            (2, format!("4 0 0 00000000 4 0 0 {given} {lent} {colours}")),
         ] {
             let case = TapeCase::new(State::START, PRINTED_TAPE.to_vec(), place);
             assert_eq!(row(0, &Case::Tape(case)), format!("tape 0 {expected}"));
         }
+        let mut case = TapeCase::new(State::START, PRINTED_TAPE.to_vec(), 9);
+        case.colour_length = 1;
+        let colours = Digest::of(&[100]);
+        let expected = format!("tape 0 0 11 11 00000000 11 0 0 {given} {lent} {colours}");
+        assert_eq!(row(0, &Case::Tape(case)), expected);
     }
 
     #[test]

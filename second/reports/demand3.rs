@@ -334,7 +334,7 @@ mod tests {
             let objects = (0..5).filter(|&object| drawing(object) != start(object));
             objects.collect()
         };
-        let cases: [(&[u8], u8, &[usize]); 11] = [
+        let cases: [(&[u8], u8, &[usize]); 12] = [
             (&[0x04, 0x05], 0x01, &[P0, M0]),
             (&[0x04, 0x05], 0x10, &[M0]),
             (&[0x0B, 0x0C], 0x08, &[P0]),
@@ -342,6 +342,7 @@ mod tests {
             (&[0x1D, 0x1E], 0x02, &[M0]),
             (&[0x25, 0x26], 0x01, &[P0]),
             (&[0x0A], 0x10, &[BL]),
+            (&[0x06, 0x07, 0x08, 0x09], 0xFF, &[]),
             (&[0x0A], 0xCF, &[]),
             (&[0x0E], 0xFF, &[]),
             (&[0x1F], 0x02, &[BL]),

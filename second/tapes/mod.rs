@@ -1,5 +1,6 @@
 //! The test tapes.
 
+pub mod colour_tapes;
 pub mod long_tapes;
 pub mod refused_tapes;
 pub mod shown_tapes;

@@ -18,7 +18,7 @@ const LATE_HMOVES: [u8; 8] = [163, 164, 167, 168, 200, 224, 226, 227];
 const STROBE: u8 = 100;
 
 /// The writes of a line: clock, address, value.
-type Writes = Vec<(u8, u8, u8)>;
+pub type Writes = Vec<(u8, u8, u8)>;
 
 /// The tapes.
 pub fn tapes() -> Tapes {
@@ -59,14 +59,14 @@ pub fn tapes() -> Tapes {
 }
 
 /// The tape of lines with these writes.
-fn tape_of_writes(lines: &[Writes]) -> Vec<u8> {
+pub fn tape_of_writes(lines: &[Writes]) -> Vec<u8> {
     let lines: Vec<_> = lines.iter().map(|line| records_of(line)).collect();
     tape_of_lines(&lines)
 }
 
 /// The writes, early in a line, that make an object show, eight columns wide or one; for the
 /// playfield the one that lights columns 16 to 47.
-fn showing_writes(object: usize, wide: bool) -> Writes {
+pub fn showing_writes(object: usize, wide: bool) -> Writes {
     let (graphic, width) = if wide { (255, 0x30) } else { (128, 0) };
     match object {
         P0 => vec![(0, 0x1B, graphic)],
@@ -79,7 +79,7 @@ fn showing_writes(object: usize, wide: bool) -> Writes {
 }
 
 /// The strobe of an object at a clock.
-fn strobe(object: usize, clock: u8) -> (u8, u8, u8) {
+pub fn strobe(object: usize, clock: u8) -> (u8, u8, u8) {
     (clock, 0x10 + object as u8, 0)
 }
 
@@ -160,7 +160,8 @@ mod tests {
             let lines = replay(&tape_of_writes(&lines_by_column(object))).lines;
             let (skipped, step) = if object == PF { (0, 1) } else { (2, 3) };
             let shown = lines.iter().skip(skipped).step_by(step);
-            let columns = shown.map(|bytes| first_lit(bytes, object as u8).unwrap().unwrap());
+            let columns =
+                shown.map(|line| first_lit(&line.objects, object as u8).unwrap().unwrap());
             assert!(columns.eq(COLUMNS.map(usize::from)));
         }
         for (n, (first, second)) in PAIRS.into_iter().enumerate() {

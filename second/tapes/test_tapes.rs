@@ -1,11 +1,11 @@
-//! The test tapes for the listing, each a file of its own, and the writing of them.
+//! The test tapes for the listing and the line bytes, each a file of its own, and the writing of them.
 
 use crate::cases::build_tapes::tape_of;
 use crate::cases::damage::DAMAGES;
 use crate::cases::random::Random;
 use crate::cases::random_lists::showing_lists;
 use crate::reports::failure::Failure;
-use crate::tapes::{long_tapes, refused_tapes, shown_tapes};
+use crate::tapes::{colour_tapes, long_tapes, refused_tapes, shown_tapes};
 use std::fs;
 use std::path::Path;
 
@@ -23,6 +23,7 @@ pub type Tapes = Vec<(String, Vec<u8>)>;
 /// Every test tape.
 fn all() -> Tapes {
     let mut tapes = shown_tapes::tapes();
+    tapes.extend(colour_tapes::tapes());
     tapes.extend(refused_tapes::tapes(&Random::new(REFUSED_SEED)));
     tapes.extend(long_tapes::tapes(&Random::new(LONG_SEED)));
     tapes.extend(random_tapes(&Random::new(RANDOM_SEED)));
@@ -57,20 +58,24 @@ pub fn write_into(folder: &Path) -> Result<(), Failure> {
 #[cfg(test)]
 mod tests {
     use super::*;
-    use crate::model::line_faults::line_faults;
+    use crate::model::line_faults::{line_faults, Lengths};
     use crate::model::state::State;
     use crate::model::tape::{read, Reading, FIRST_PLACE};
     use std::collections::HashSet;
 
     /// The refusal that a part of a tape's name tells: number, line, record, or the number alone. The
     /// first part that a name has decides; tapes with none of them are good.
-    const REFUSALS: [(&str, &str); 18] = [
+    const REFUSALS: [(&str, &str); 22] = [
         ("refused_4_last_line", "4 6 0"),
         ("refused_4_also_cut_length_5_after_12", "4 12 0"),
         ("refused_5_last_line_record_7", "5 6 7"),
         ("refused_6_middle_line_record_1", "6 3 1"),
         ("refused_7_record_227", "7 2 227"),
         ("refused_9_684_cut_by_1_after_1_lines", "9 1 0"),
+        ("refused_7_register_", "7 1 4"),
+        ("refused_5_after_colours_in_its_line", "5 1 2"),
+        ("refused_6_after_colours_in_its_line", "6 1 2"),
+        ("refused_7_after_colours_in_its_line", "7 1 2"),
         ("refused_4", "4 "),
         ("refused_5", "5 "),
         ("refused_6", "6 "),
@@ -88,10 +93,14 @@ mod tests {
     /// The refusal of a tape: number, line, record. No line is run: what refuses it is in its own
     /// bytes.
     fn refusal(tape: &[u8]) -> Option<String> {
+        let lengths = Lengths {
+            objects: 160,
+            colours: 160,
+        };
         let mut place = FIRST_PLACE;
         let mut line = 0;
         while let Ok(Reading::Line { start, end }) = read(tape, place) {
-            let faults = line_faults(&State::START, &tape[start..end], 160);
+            let faults = line_faults(&State::START, &tape[start..end], lengths);
             if let Some(fault) = faults.first() {
                 return Some(format!("{} {} {}", fault.number, line, fault.record));
             }
@@ -106,7 +115,7 @@ mod tests {
     fn tapes_are_refused_as_their_names_say_and_damaged_ones_with_every_number() {
         let tapes = all();
         let names: HashSet<&String> = tapes.iter().map(|(name, _)| name).collect();
-        assert_eq!((tapes.len(), names.len()), (389, 389));
+        assert_eq!((tapes.len(), names.len()), (438, 438));
         let mut damaged = Vec::new();
         for (name, tape) in &tapes {
             let refusal = refusal(tape).unwrap_or_default();

@@ -29,7 +29,7 @@ fn placed(mut state: State, position: u8, age: u8) -> State {
 }
 
 /// A state at clock h whose next clock, pulsed or not, lights all objects and the playfield.
-fn all_lit(h: u8, late: bool) -> State {
+pub fn all_lit(h: u8, late: bool) -> State {
     let mut state = placed(State { late, ..at(h) }, 100, 6);
     state.registers.grp_new = [0b1111_1001; 2];
     state.registers.enam = [true; 2];
@@ -47,17 +47,21 @@ fn all_lit(h: u8, late: bool) -> State {
 fn a_bad_state_is_refused_before_an_unknown_register() {
     let answer = |state: &State, write| {
         let answer = clock(state, write);
-        (answer.number, answer.record, answer.byte, answer.state)
+        let bytes = [answer.byte, answer.colour];
+        (answer.number, answer.record, bytes, answer.state)
     };
-    let good = all_lit(0, true);
-    let bad = State { slot: 17, ..good };
-    assert_eq!(answer(&bad, None), (1, 0, 0, bad));
-    for address in 0..=255 {
-        assert_eq!(answer(&bad, to(address, 9)), (1, 0, 0, bad));
-        let answer = answer(&good, to(address, 255));
-        match register_at(address) {
-            Some(_) => assert_eq!((answer.0, answer.1, answer.2), (0, 0, 128)),
-            None => assert_eq!(answer, (7, 0, 0, good)),
+    for (h, bytes) in [(0, [128, 0]), (70, [64, 0])] {
+        let mut good = all_lit(h, true);
+        good.registers.colup = [0x35, 0x57];
+        let bad = State { slot: 17, ..good };
+        assert_eq!(answer(&bad, None), (1, 0, [0, 0], bad));
+        for address in 0..=255 {
+            assert_eq!(answer(&bad, to(address, 9)), (1, 0, [0, 0], bad));
+            let answer = answer(&good, to(address, 255));
+            match register_at(address) {
+                Some(_) => assert_eq!((answer.0, answer.1, answer.2), (0, 0, bytes)),
+                None => assert_eq!(answer, (7, 0, [0, 0], good)),
+            }
         }
     }
 }

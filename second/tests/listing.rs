@@ -1,8 +1,8 @@
-//! Tests of the programs that read a tape from standard input: the listing, and the object bytes.
+//! Tests of the programs that read a tape from standard input: the listing, and the line bytes.
 
 use crate::cases::bench::PRINTED_TAPE;
 use crate::cases::build_tapes::tape_of;
-use crate::model::{listing, object_bytes};
+use crate::model::{line_bytes, listing};
 
 const HEADING: &str = "line P0 P1 M0 M1 BL PF\n";
 
@@ -22,22 +22,23 @@ fn assert_listed(tape: &[u8], texts: &[&str]) {
     assert_eq!(String::from_utf8(out), Ok(expected));
 }
 
-/// The object bytes of a tape.
-fn object_bytes_of(tape: &[u8]) -> Vec<u8> {
+/// The bytes of a tape's lines.
+fn line_bytes_of(tape: &[u8]) -> Vec<u8> {
     let mut out = Vec::new();
-    object_bytes::write(&mut &tape[..], &mut out).unwrap();
+    line_bytes::write(&mut &tape[..], &mut out).unwrap();
     out
 }
 
 /// The four lines of the printed tape, by the paper: nothing; missile 0 at column 3; eight blank
-/// columns and missile 0 at column 156; missile 0 at column 156.
+/// columns and missile 0 at column 156; missile 0 at column 156. All colours are 0.
 fn printed_bytes() -> Vec<u8> {
     let mut lines = [[0; 160]; 4];
     lines[1][3] = 0b0000_0100;
     lines[2][..8].fill(64);
     lines[2][156] = 0b0000_0100;
     lines[3][156] = 0b0000_0100;
-    lines.concat()
+    let with_colours = lines.map(|objects| [objects, [0; 160]].concat());
+    with_colours.concat()
 }
 
 // "For `01 0006 ...` it prints exactly: ..." "The heading comes first, before a refusal too. ... On
@@ -46,7 +47,7 @@ fn printed_bytes() -> Vec<u8> {
 #[test]
 fn bench_the_printed_tape_and_refusals_before_and_after_its_lines() {
     assert_listed(&PRINTED_TAPE, &[PRINTED_ROWS, NO_LATCHES]);
-    assert_eq!(object_bytes_of(&PRINTED_TAPE), printed_bytes());
+    assert_eq!(line_bytes_of(&PRINTED_TAPE), printed_bytes());
     let at_once: [(&[u8], &str); 3] = [
         (&[], "refused 8 line 0 record 0\n"),
         (&[2, 0, 0], "refused 8 line 0 record 0\n"),
@@ -54,7 +55,7 @@ fn bench_the_printed_tape_and_refusals_before_and_after_its_lines() {
     ];
     for (tape, refused) in at_once {
         assert_listed(tape, &[refused]);
-        assert_eq!(object_bytes_of(tape), []);
+        assert_eq!(line_bytes_of(tape), []);
     }
     let after: [(&[u8], &str); 7] = [
         (&[0], "refused 9 line 4 record 0\n"),
@@ -68,7 +69,7 @@ fn bench_the_printed_tape_and_refusals_before_and_after_its_lines() {
     for (bad, refused) in after {
         let tape = [&PRINTED_TAPE[..], bad].concat();
         assert_listed(&tape, &[PRINTED_ROWS, refused]);
-        assert_eq!(object_bytes_of(&tape), printed_bytes());
+        assert_eq!(line_bytes_of(&tape), printed_bytes());
     }
 }
 
@@ -85,7 +86,7 @@ fn bench_over_65536_bytes_are_too_long() {
     let rows: String = (0..618).map(|n| format!("{n} - - - - - -\n")).collect();
     assert_eq!(longest.len(), 65_536);
     assert_listed(&longest, &[&rows, NO_LATCHES]);
-    assert_eq!(object_bytes_of(&longest), [0; 618 * 160]);
+    assert_eq!(line_bytes_of(&longest), [0; 618 * 320]);
     assert_listed(&[0; 65_536], &["refused 8 line 0 record 0\n"]);
     for length in [65_537, 65_538, 140_000] {
         let mut tape = longest.clone();
@@ -94,7 +95,7 @@ fn bench_over_65536_bytes_are_too_long() {
             let mut out = Vec::new();
             listing::write(&mut &tape[..], &mut out).unwrap();
             assert_eq!(out, b"tape too long\n");
-            assert_eq!(object_bytes_of(&tape), []);
+            assert_eq!(line_bytes_of(&tape), []);
         }
     }
 }

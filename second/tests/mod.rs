@@ -5,6 +5,7 @@ pub mod playing;
 
 mod bench;
 mod clock;
+mod colour;
 mod counter;
 mod input;
 mod line;

@@ -23,10 +23,11 @@ pub fn done(state: &State, write: Option<RegisterWrite>) -> Done {
     run(state, write).unwrap()
 }
 
-/// A line that was played: the state after it and its bytes.
+/// A line that was played: the state after it, its object bytes and its colour bytes.
 pub struct Played {
     pub state: State,
     pub bytes: [u8; 160],
+    pub colours: [u8; 160],
 }
 
 /// Lines with these write lists, all accepted, played one after another from the start state.
@@ -34,11 +35,15 @@ pub fn play(lists: &[Vec<u8>]) -> Vec<Played> {
     let mut state = State::START;
     let mut played = Vec::new();
     for list in lists {
-        let mut bytes = [99; 160];
-        let answer = line(&state, list, &mut bytes);
+        let (mut bytes, mut colours) = ([99; 160], [99; 160]);
+        let answer = line(&state, list, &mut bytes, &mut colours);
         assert_eq!((answer.number, answer.record), (0, 0));
         state = answer.state;
-        played.push(Played { state, bytes });
+        played.push(Played {
+            state,
+            bytes,
+            colours,
+        });
     }
     played
 }

@@ -10,32 +10,42 @@ fn after(writes: &[(u8, u8)]) -> State {
     writes.iter().fold(at(1), write)
 }
 
-// The addresses and names in the paper's order; "Any other address is refused".
+// The addresses and names in the paper's order; "Any other address is refused". One: "Accept 06
+// COLUP0, 07 COLUP1, 08 COLUPF and 09 COLUBK ... 7 no longer covers 06 to 09".
 #[test]
-fn twenty_nine_addresses_are_known() {
-    let addresses = (0x04..=0x05).chain(0x0A..=0x14).chain(0x1B..=0x27);
+fn thirty_three_addresses_are_known() {
+    let addresses = (0x04..=0x14).chain(0x1B..=0x27);
     let expected: Vec<u8> = addresses.chain(0x2A..=0x2C).collect();
     let known = (0..=255).filter(|&address| register_at(address).is_some());
     assert_eq!(known.collect::<Vec<u8>>(), expected);
     let names = KNOWN.map(|known| known.1).join(" ");
-    let expected = "NUSIZ0 NUSIZ1 CTRLPF REFP0 REFP1 PF0 PF1 PF2 RESP0 RESP1 RESM0 RESM1 RESBL \
-                    GRP0 GRP1 ENAM0 ENAM1 ENABL HMP0 HMP1 HMM0 HMM1 HMBL VDELP0 VDELP1 VDELBL \
+    let expected = "NUSIZ0 NUSIZ1 COLUP0 COLUP1 COLUPF COLUBK CTRLPF REFP0 REFP1 PF0 PF1 PF2 \
+                    RESP0 RESP1 RESM0 RESM1 RESBL GRP0 GRP1 ENAM0 ENAM1 ENABL HMP0 HMP1 HMM0 HMM1 HMBL VDELP0 VDELP1 VDELBL \
                     HMOVE HMCLR CXCLR";
     assert_eq!(names, expected);
 }
 
 // The bits of each register; "Other bits are ignored and not kept", but CTRLPF's "whole byte is".
+// One: of the colour registers "the written byte kept whole".
 #[test]
 fn each_register_keeps_its_bits_and_no_others() {
     // Address, value, the bits that are ignored, and what the value sets.
     type Row = (u8, u8, u8, fn(&mut Registers));
-    let rows: [Row; 20] = [
+    let rows: [Row; 28] = [
         (0x04, 0x07, 0xC8, |r| r.copies[0] = 7),
         (0x04, 0x04, 0xC8, |r| r.copies[0] = 4),
         (0x04, 0x10, 0xC8, |r| r.width_codes[0] = 1),
         (0x04, 0x30, 0xC8, |r| r.width_codes[0] = 3),
         (0x05, 0x05, 0xC8, |r| r.copies[1] = 5),
         (0x05, 0x20, 0xC8, |r| r.width_codes[1] = 2),
+        (0x06, 0xA5, 0x00, |r| r.colup[0] = 0xA5),
+        (0x06, 0x01, 0x00, |r| r.colup[0] = 0x01),
+        (0x07, 0xA5, 0x00, |r| r.colup[1] = 0xA5),
+        (0x07, 0xFF, 0x00, |r| r.colup[1] = 0xFF),
+        (0x08, 0xA5, 0x00, |r| r.colupf = 0xA5),
+        (0x08, 0x01, 0x00, |r| r.colupf = 0x01),
+        (0x09, 0xA5, 0x00, |r| r.colubk = 0xA5),
+        (0x09, 0xFF, 0x00, |r| r.colubk = 0xFF),
         (0x0A, 0xA5, 0x00, |r| r.ctrlpf = 0xA5),
         (0x0B, 0x08, 0xF7, |r| r.refp[0] = true),
         (0x0C, 0x08, 0xF7, |r| r.refp[1] = true),

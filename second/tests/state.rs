@@ -18,10 +18,11 @@ fn assert_checked(change: impl Fn(&mut State), good: bool) {
 /// A number of the state: how many there are of it, its greatest value, and how one is set.
 type Field = (usize, u8, fn(&mut State, usize, u8));
 
-// 1: "a state field is outside its range".
+// 1: "a state field is outside its range". One: "The four registers join the state with range 0 to
+// 255".
 #[test]
 fn each_number_is_good_exactly_within_its_range() {
-    let fields: [Field; 8] = [
+    let fields: [Field; 12] = [
         (1, 227, |s, _, byte| s.h = byte),
         (5, 159, |s, n, byte| s.objects[n].position = byte),
         (5, 64, |s, n, byte| s.objects[n].age = byte),
@@ -30,6 +31,10 @@ fn each_number_is_good_exactly_within_its_range() {
         (2, 7, |s, n, byte| s.registers.copies[n] = byte),
         (2, 3, |s, n, byte| s.registers.width_codes[n] = byte),
         (1, 15, |s, _, byte| s.registers.pf0 = byte),
+        (1, 255, |s, _, byte| s.registers.ctrlpf = byte),
+        (2, 255, |s, n, byte| s.registers.colup[n] = byte),
+        (1, 255, |s, _, byte| s.registers.colupf = byte),
+        (1, 255, |s, _, byte| s.registers.colubk = byte),
     ];
     for byte in 0..=255 {
         for (count, most, set) in fields {
