@@ -17,6 +17,10 @@ class Register(NamedTuple):
 REGISTERS = {
     "NUSIZ0": Register(0x04, False),
     "NUSIZ1": Register(0x05, False),
+    "COLUP0": Register(0x06, False),
+    "COLUP1": Register(0x07, False),
+    "COLUPF": Register(0x08, False),
+    "COLUBK": Register(0x09, False),
     "CTRLPF": Register(0x0A, False),
     "REFP0": Register(0x0B, False),
     "REFP1": Register(0x0C, False),

@@ -2,8 +2,10 @@
 
 from functools import lru_cache
 from itertools import groupby
+from typing import NamedTuple
 
 COLUMNS = 160
+LINE_BYTES = 2 * COLUMNS  # what line_bytes writes for a line: object bytes, then colour bytes
 LETTERS = {"P0": "P", "P1": "Q", "M0": "M", "M1": "N", "BL": "B", "PF": "F"}  # bit 0 of an object byte first
 MARKS = {**LETTERS, "overlap": "*", "blanked": "-", "nothing": "."}
 UNSHOWN = 0xC0  # the bits of an object byte under which no object shows
@@ -28,11 +30,20 @@ def fitting_fold(width):
     return next((fold for fold in FOLDS if MARGIN + fold < width), FOLDS[-1])
 
 
-def lines_of(object_bytes):
-    """The lines of a tape's object bytes, 160 bytes each. Fails with ValueError where the last is cut short."""
-    if len(object_bytes) % COLUMNS != 0:
-        raise ValueError(f"found {len(object_bytes)} object bytes: expected whole lines of {COLUMNS}")
-    return [object_bytes[at : at + COLUMNS] for at in range(0, len(object_bytes), COLUMNS)]
+class Line(NamedTuple):
+    """The bytes of a line: an object byte and a colour byte for each column."""
+
+    objects: bytes
+    colours: bytes
+
+
+def lines_of(line_bytes):
+    """The lines of a tape, given as 160 object bytes and 160 colour bytes each. Fails with ValueError where the last is
+    cut short."""
+    if len(line_bytes) % LINE_BYTES != 0:
+        raise ValueError(f"found {len(line_bytes)} bytes: expected whole lines of {LINE_BYTES}")
+    starts = range(0, len(line_bytes), LINE_BYTES)
+    return [Line(line_bytes[at : at + COLUMNS], line_bytes[at + COLUMNS : at + LINE_BYTES]) for at in starts]
 
 
 def shown(lines, last, refusals, chosen=None, fold=COLUMNS):

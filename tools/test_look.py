@@ -1,4 +1,4 @@
-"""Tests of look and of its picture; those of the whole script need target/bin/object_bytes and target/bin/listing.
+"""Tests of look and of its picture; those of the whole script need target/bin/line_bytes and target/bin/listing.
 Run: python3 tools/test_look.py"""
 
 import fcntl
@@ -19,7 +19,7 @@ sys.dont_write_bytecode = True
 from picture import ending, fitting_fold, legend, lines_of, lit, mark, meaning, met, overlaps, ruler, shown
 
 PROJECT = Path(__file__).resolve().parent.parent
-PROGRAMS = ("object_bytes", "listing")
+PROGRAMS = ("line_bytes", "listing")
 REFUSALS = (PROJECT / "docs/REFUSALS.md").read_text("utf-8")
 NO_LATCHES = "cx 00 00 00 00 00 00 00 00"
 OVER_227 = "A record's clock is over 227. The clocks of a line are 0 to 227."
@@ -186,10 +186,13 @@ class Lines(unittest.TestCase):
         for chosen in (None, (0, 0), (3, 5)):
             self.assertEqual(shown([], NO_LATCHES, REFUSALS, chosen), ["no line was run", NO_LATCHES, "met: none"])
 
-    def test_cut_from_object_bytes(self):
-        self.assertEqual(lines_of(b"".join(self.lines)), self.lines)
+    def test_cut_from_line_bytes(self):
+        colours = [bytes([2 * number] * 160) for number in range(12)]
+        lines = lines_of(b"".join(objects + colour for objects, colour in zip(self.lines, colours)))
+        self.assertEqual([line.objects for line in lines], self.lines)
+        self.assertEqual([line.colours for line in lines], colours)
         self.assertEqual(lines_of(b""), [])
-        for length in (1, 80, 159, 161):
+        for length in (1, 159, 160, 161, 319, 321, 480):
             self.assertRaises(ValueError, lines_of, bytes(length))
 
 
@@ -225,10 +228,10 @@ class Endings(unittest.TestCase):
         self.assertEqual(ending(last, REFUSALS), [last, "met: M0-P1 P0-PF P0-P1 M0-M1"])
 
     def test_each_refusal_has_a_meaning(self):
-        meanings = [meaning(str(number), REFUSALS) for number in range(1, 11)]
-        self.assertEqual(len(set(meanings)), 10)
+        meanings = [meaning(str(number), REFUSALS) for number in range(1, 12)]
+        self.assertEqual(len(set(meanings)), 11)
         self.assertEqual(meanings[4], OVER_227)
-        for number in ("0", "11", ""):
+        for number in ("0", "12", ""):
             self.assertEqual(meaning(number, REFUSALS), "See docs/REFUSALS.md.", number)
 
     def test_refusal_in_words(self):
@@ -248,7 +251,7 @@ class Script(unittest.TestCase):
     def setUpClass(cls):
         missing = [program for program in PROGRAMS if not (PROJECT / "target/bin" / program).exists()]
         if missing:
-            raise AssertionError(f"not built: {' '.join(missing)}. Build with 'rt check listing object_bytes'.")
+            raise AssertionError(f"not built: {' '.join(missing)}. Build with 'rt check listing line_bytes'.")
 
     def setUp(self):
         folder = tempfile.TemporaryDirectory()
@@ -302,6 +305,12 @@ class Script(unittest.TestCase):
         legend_row = "legend: P = P0, Q = P1, M = M0, N = M1, B = BL, F = PF, . = nothing"
         expected = [*RULER, row.ljust(166, "."), "", legend_row, NO_LATCHES, "met: none"]
         self.assertEqual(rows, expected)
+
+    def test_letters_whatever_the_colours(self):
+        colours = " 20 COLUP0 $FF\n 21 COLUP1 $40\n 22 COLUPF $20\n 23 COLUBK $C1\n"
+        for control in (0, 2, 4, 6):
+            coloured = EACH_OBJECT.replace(" 80 RESP0", f"{colours} 24 CTRLPF {control}\n 80 RESP0")
+            self.assertEqual(self.rows(self.file("coloured", coloured)), self.rows(self.file("each", EACH_OBJECT)))
 
     def test_overlap(self):
         rows = self.rows(self.file("meeting", MEETING))
@@ -372,25 +381,26 @@ class Script(unittest.TestCase):
         project = self.project()
         name = self.file("a.tape", TAPE)
         for program in PROGRAMS:
-            message = f"target/bin/{program} is missing: build it with 'rt check listing object_bytes'"
+            message = f"target/bin/{program} is missing: build it with 'rt check listing line_bytes'"
             self.assert_fails(message, name, project=project)
             shutil.copy(PROJECT / "target/bin" / program, project / "target/bin")
         self.assertEqual(self.rows(name, project=project), SHOWN)
 
     def test_programs_that_fail(self):
-        one_line = "head -c 160 /dev/zero"
+        one_line = "head -c 320 /dev/zero"
         cases = [
-            ("exit 3", "", "target/bin/object_bytes failed with status 3"),
-            ("printf 0", "", "target/bin/object_bytes: found 1 object bytes: expected whole lines of 160"),
+            ("exit 3", "", "target/bin/line_bytes failed with status 3"),
+            ("printf 0", "", "target/bin/line_bytes: found 1 bytes: expected whole lines of 320"),
+            ("head -c 160 /dev/zero", "", "target/bin/line_bytes: found 160 bytes: expected whole lines of 320"),
             (one_line, "printf 'line\\n'; exit 4", "target/bin/listing failed with status 4"),
-            (one_line, "printf 'line\\ncx 0\\n'", "the programs disagree: object_bytes ran 1 lines, listing 0"),
+            (one_line, "printf 'line\\ncx 0\\n'", "the programs disagree: line_bytes ran 1 lines, listing 0"),
             (one_line, "printf 'line\\n0\\nx\\n'", "found 'x' at the listing's end: expected latches or a refusal"),
             ("", "", "found '' at the listing's end: expected latches or a refusal"),
         ]
-        for object_bytes, listing, message in cases:
+        for line_bytes, listing, message in cases:
             shutil.rmtree(self.folder, ignore_errors=True)
             self.folder.mkdir()
-            self.assert_fails(message, "-", project=self.project(object_bytes=object_bytes, listing=listing))
+            self.assert_fails(message, "-", project=self.project(line_bytes=line_bytes, listing=listing))
 
     def test_closed_pipe(self):
         command = [sys.executable, PROJECT / "tools/look", "-"]

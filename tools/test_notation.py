@@ -3,6 +3,7 @@
 import os
 import pty
 import random
+import re
 import subprocess
 import sys
 import tempfile
@@ -13,9 +14,11 @@ from notation import REGISTERS, SourceError, TapeError, assemble, disassemble, s
 TOOLS = os.path.dirname(os.path.abspath(__file__))
 
 # The registers and their addresses, as the chip's description lists them.
-NAMES = """NUSIZ0 NUSIZ1 CTRLPF REFP0 REFP1 PF0 PF1 PF2 RESP0 RESP1 RESM0 RESM1 RESBL GRP0 GRP1 ENAM0 ENAM1 ENABL
-    HMP0 HMP1 HMM0 HMM1 HMBL VDELP0 VDELP1 VDELBL HMOVE HMCLR CXCLR""".split()
-ADDRESSES = bytes.fromhex("04 05 0A 0B 0C 0D 0E 0F 10 11 12 13 14 1B 1C 1D 1E 1F 20 21 22 23 24 25 26 27 2A 2B 2C")
+NAMES = """NUSIZ0 NUSIZ1 COLUP0 COLUP1 COLUPF COLUBK CTRLPF REFP0 REFP1 PF0 PF1 PF2 RESP0 RESP1 RESM0 RESM1 RESBL
+    GRP0 GRP1 ENAM0 ENAM1 ENABL HMP0 HMP1 HMM0 HMM1 HMBL VDELP0 VDELP1 VDELBL HMOVE HMCLR CXCLR""".split()
+ADDRESSES = bytes.fromhex(
+    "04 05 06 07 08 09 0A 0B 0C 0D 0E 0F 10 11 12 13 14 1B 1C 1D 1E 1F 20 21 22 23 24 25 26 27 2A 2B 2C"
+)
 STROBES = bytes.fromhex("10 11 12 13 14 2A 2B 2C")
 
 # The case that the chip's description prints, as a source and as a tape.
@@ -40,6 +43,15 @@ class Registers(unittest.TestCase):
     def test_strobes(self):
         strobes = bytes(register.address for register in REGISTERS.values() if register.strobe)
         self.assertEqual(strobes, STROBES)
+
+    def test_each_stands_in_the_table_with_its_address(self):
+        with open(os.path.join(TOOLS, "NOTATION.md"), encoding="utf-8") as file:
+            rows = re.findall(r"^\| ([A-Z0-9 ]+) \| ([$A-F0-9to ]+) \|", file.read(), re.M)
+        self.assertEqual(" ".join(names for names, _ in rows).split(), NAMES)
+        for names, addresses in rows:
+            places = [ADDRESSES[NAMES.index(name)] for name in names.split()]
+            shown = [f"${place:02X}" for place in places]
+            self.assertIn(addresses, (" ".join(shown), f"{shown[0]} to {shown[-1]}"), names)
 
     def test_each_name_assembles_to_its_address(self):
         for name, address in zip(NAMES, ADDRESSES):
@@ -143,6 +155,7 @@ MORE = "expected nothing more; a comment begins with ';'"
 REGISTER = "expected a register name such as HMM0, or an address from $00 to $FF"
 LIKE_NUSIZ0 = REGISTER.replace("HMM0", "NUSIZ0")
 LIKE_ENAM0 = REGISTER.replace("HMM0", "ENAM0")
+LIKE_COLUBK = REGISTER.replace("HMM0", "COLUBK")
 NO_VALUE = "expected a value from 0 to 255; only a strobe needs none"
 
 # Source, the line at fault, the message.
@@ -154,11 +167,13 @@ BAD_SOURCES = [
     ("line\n0 HMM2 $70", 2, f"unknown register 'HMM2': {REGISTER}"),
     ("line\n0 nus\u0131z0 0", 2, f"unknown register 'nus\u0131z0': {LIKE_NUSIZ0}"),
     ("line\n0 enamo 2", 2, f"unknown register 'enamo': {LIKE_ENAM0}"),
+    ("line\n0 colorbk 2", 2, f"unknown register 'colorbk': {LIKE_COLUBK}"),
     ("line\n0 XYZ 2", 2, f"unknown register 'XYZ': {REGISTER}"),
     ("line\n0 HMM0\u00a0$70", 2, f"unknown register 'HMM0\\xa0$70': {REGISTER}"),
     ("line\n0 line", 2, f"unknown register 'line': {REGISTER}"),
     ("line\n0 HMM0", 2, f"found no value for HMM0: {NO_VALUE}"),
     ("line\n0 HMM0 ; $70", 2, f"found no value for HMM0: {NO_VALUE}"),
+    ("line\n0 COLUP0", 2, f"found no value for COLUP0: {NO_VALUE}"),
     ("line\n0 $2D", 2, f"found no value for $2D: {NO_VALUE}"),
     ("line\n256 GRP0 1", 2, f"found '256': {CLOCK} from 0 to 227 ($E3)"),
     ("line\n-1 GRP0 1", 2, f"found '-1': {CLOCK} {CLOCKS}"),

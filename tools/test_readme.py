@@ -1,4 +1,4 @@
-"""Tests that README.md shows what its commands print. Needs target/bin/object_bytes and target/bin/listing.
+"""Tests that README.md shows what its commands print. Needs target/bin/line_bytes and target/bin/listing.
 Run: python3 tools/test_readme.py"""
 
 import re

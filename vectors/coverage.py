@@ -1,8 +1,11 @@
-"""What the scenes cover, as rows of counts: what the last lines light, the emulator latched and the tapes write."""
+"""What the scenes cover, as rows of counts: what the last lines light, the emulator latched and the tapes write, and what
+is seen of the colours."""
 
+from colour_coverage import COLOUR_ROWS
+from colour_rule import columns_of
 from notation import REGISTERS
 from picture import LATCHES, LETTERS, lit, met
-from scenes import BLANK, PLAYERS_FIRST, PLAYFIELD_FIRST, colour_order, drawn
+from scenes import BLANK, PICTURES, PLAYERS_FIRST, PLAYFIELD_FIRST, colour_order, drawn
 
 PAIRS = [pair for pairs in LATCHES for pair in pairs]
 BLANKED = 64  # object byte of a blanked column
@@ -31,8 +34,8 @@ FIELDS = (
 )
 
 
-def coverage(scenes, last_lines):
-    """The rows for these scenes, given the object bytes of their last lines."""
+def coverage(kind, scenes, last_lines):
+    """The rows for these scenes of a kind, given the object bytes of their last lines."""
     fields = [
         counts(title, range(size), (values(scene, *place, size) for scene in scenes)) for title, *place, size in FIELDS
     ]
@@ -41,12 +44,23 @@ def coverage(scenes, last_lines):
         counts("last line has", ("overlaps", "blanked columns"), map(overlaps_and_blanks, last_lines)),
         counts("last line has together", PAIRS, map(together, last_lines)),
         counts("emulator latched", ("any", *PAIRS), map(latched, scenes)),
-        counts("CTRLPF bit 2", ("clear", "set", "clear and seen", "set and seen"), map(bit_2, scenes, last_lines)),
+        *(picture_rows if kind == PICTURES else colour_rows)(scenes, last_lines),
         counts("HMOVE at clock", CLOCKS, (clocks(scene, "HMOVE") for scene in scenes)),
         counts("position strobe at clock", CLOCKS, (clocks(scene, *STROBES) for scene in scenes)),
         *fields,
         "registers not written: " + (", ".join(unwritten(scenes)) or "none"),
     ]
+
+
+def picture_rows(scenes, last_lines):
+    """The row on the colour order of pictures."""
+    return [counts("CTRLPF bit 2", ("clear", "set", "clear and seen", "set and seen"), map(bit_2, scenes, last_lines))]
+
+
+def colour_rows(scenes, last_lines):
+    """The rows on the colours of scenes that have them."""
+    lines = list(map(columns_of, scenes, last_lines))
+    return [counts(title, names, map(found, lines)) for title, names, found in COLOUR_ROWS]
 
 
 def counts(title, names, found):
