@@ -10,6 +10,7 @@ returns : tie.Need-returns
 unfolding badState inRange liveAtRest
 returns c =
     let start = c .before .before .before .before .before .before .before .before in
+    -- Of all that the state's type tells, what it tells of the colours: they are bytes.
     let ranges = start .good .0 .1 .1 .1 .1 .1 .0 in
     let colours = start .args .self .colours in
     rw (
