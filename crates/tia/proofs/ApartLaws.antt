@@ -1,27 +1,25 @@
 -- Colours disturb nothing: a clock, a line and a run with other colours, and other writes to the colour registers.
 use mathlib.Core.Path.{_≡_, _∙_, refl, sym, ap}
-use mathlib.Core.Bool.{Bool, true, false, cond, _&&_, _||_, not, and-true, true≢false}
+use mathlib.Core.Bool.{Bool, true, false, cond, _||_, not, true≢false}
 use mathlib.Core.List.{List, [], _∷_}
 use Prim.Native.Nat.{ℕ, zero, suc}
-use borrow.Author.Tests.{eq-eqb, eqb-true}
+use borrow.Author.Tests.{eqb-true}
 use lib.Dec.{eqb}
 use lib.ListN.{drop}
 use Rattle.tia.specs.declared.clock.Clocked.{Clocked}
-use Rattle.tia.specs.declared.answers.ClockAnswer.{ClockAnswer}
 use Rattle.tia.specs.declared.state.State.{State}
 use Rattle.tia.specs.declared.write.Write.{Write}
 use Rattle.tia.specs.declared.write.Write.the-variants.{Nothing, Register}
 use Rattle.tia.specs.Write.{known, unknown}
-use Rattle.tia.specs.State.{registersInRange, coloursInRange, inRange, liveAtRest, badState}
+use Rattle.tia.specs.State.{coloursInRange, inRange, liveAtRest, badState}
 use Rattle.tia.specs.Latches.{latchesWritten}
 use Rattle.tia.specs.Clock.{clockOf}
 use Rattle.tia.specs.WriteList.{recordsOf, writeAt}
-use Rattle.tia.specs.Line.{Clocks, clocksFrom, lineOf, picture, Buffers}
+use Rattle.tia.specs.Line.{Clocks, clocksFrom, lineOf, Buffers}
 use Rattle.laws.specs.Numbers.{forBadState, forUnknownRegister}
 use Rattle.tia.specs.Answers.{refusedClock, givenClock, clockAnswer}
-use Rattle.tia.specs.Run.{Call, LineCall, Meets}
-use Rattle.tia.specs.Apart.{SameButColours, isColour, outside, AgreeOutside, ClockApart, LineApart, Pair, isAccepted, RunsAgree, RunsSame}
-use Rattle.tia.specs.Apart.{RunApart, ColoursApart}
+use Rattle.tia.specs.Run.{Call, LineCall, Meets, isAccepted}
+use Rattle.tia.specs.Apart.{SameButColours, isColour, outside, AgreeOutside, ClockApart, LineApart, RunApart, ColoursApart}
 use Rattle.tia.proofs.Computing.{objectSteps}
 use Rattle.tia.proofs.AcceptLaws.{accepted, refused-state}
 use Rattle.tia.proofs.RunLaws.{call-good}

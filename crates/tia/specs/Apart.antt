@@ -4,7 +4,6 @@ use Prim.Native.Nat.{ℕ}
 use mathlib.Core.Path.{_≡_}
 use mathlib.Core.Bool.{Bool, true, false, cond}
 use mathlib.Core.List.{List, [], _∷_}
-use lib.Dec.{eqb}
 use Rattle.tia.specs.declared.state.State.{State}
 use Rattle.tia.specs.declared.write.Write.{Write}
 use Rattle.tia.specs.declared.write.Write.the-variants.{Nothing, Register}
@@ -12,7 +11,7 @@ use Rattle.tia.specs.Write.{COLUP0, COLUP1, COLUPF, COLUBK, listed}
 use Rattle.tia.specs.State.{coloursInRange, badState}
 use Rattle.tia.specs.WriteList.{TimedWrite, recordsOf, writeAt}
 use Rattle.tia.specs.Answers.{clockAnswer}
-use Rattle.tia.specs.Run.{Call, LineCall, Meets}
+use Rattle.tia.specs.Run.{Call, LineCall, Meets, isAccepted}
 
 -- Two states that are equal but for their colour registers.
 pub record SameButColours (s t : State) : Type 0 where
@@ -57,9 +56,6 @@ LineApart line =
 pub record Pair : Type 0 where
   pub one : Call
   pub other : Call
-
-abbrev pub isAccepted : LineCall → State → Call → Bool
-isAccepted line s c = eqb (line s c .answer .number) 0
 
 -- The lists of each pair agree outside the colour registers, and both calls are accepted or both refused.
 abbrev pub RunsAgree : LineCall → State → State → List Pair → Type 0

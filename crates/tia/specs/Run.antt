@@ -58,12 +58,15 @@ abbrev pub stateAfter : LineCall → State → List Call → State
 stateAfter line s [] = s
 stateAfter line s (c ∷ cs) = stateAfter line (line s c .answer .state) cs
 
--- The records of the accepted lines, in their order.
+-- Whether a call is accepted, and the records of the accepted lines, in their order.
+abbrev pub isAccepted : LineCall → State → Call → Bool
+isAccepted line s c = eqb (line s c .answer .number) 0
+
 unfoldable pub acceptedLists : LineCall → State → List Call → List (List TimedWrite)
 acceptedLists line s [] = []
 acceptedLists line s (c ∷ cs) =
     let later = acceptedLists line (line s c .answer .state) cs in
-    cond (eqb (line s c .answer .number) 0) (recordsOf (c .writes) ∷ later) later
+    cond (isAccepted line s c) (recordsOf (c .writes) ∷ later) later
 
 -- Signed motion value at an HMOVE: the object's half byte as last written, or cleared by HMCLR, before that clock in the run's
 -- accepted lines, the HMOVE's own line among them; without such a write, the first state's. The half byte, and the sum of the

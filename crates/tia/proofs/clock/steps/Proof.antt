@@ -2,7 +2,6 @@
 use native.Mathlib.Omega.{arith}
 use Rattle.tia.proofs.RangeLaws.{slot-written}
 use Rattle.tia.specs.Clock.{clockOf}
-use borrow.Author.Needs.{needs}
 use Rattle.tia.proofs.clock.steps.Statement.{statement}
 use Rattle.tia.proofs.clock.steps.Tie as tie
 
