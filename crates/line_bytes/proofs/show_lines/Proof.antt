@@ -12,7 +12,7 @@ use Rattle.line_bytes.proofs.show_lines.Tie as tie
 
 abbrev Inv-loop : tie.InvT-loop
 Inv-loop tape bytes₀ colours₀ state₀ place₀ step₀ bytes colours state place step =
-    (step ≤ enough) × (length bytes ≡ 160) × (length colours ≡ 160) × Shown tape (enough - step) state place (buffers bytes colours)
+    (step ≤ enough) × (length bytes ≡ 160) × (length colours ≡ 160) × Shown tape step state place (buffers bytes colours)
 
 abbrev μ-loop : tie.MeasureT-loop
 μ-loop tape bytes₀ colours₀ state₀ place₀ step₀ bytes colours state place step = enough - step
