@@ -1,5 +1,5 @@
 //! The command line of the second program: one command a report, the listing, the line bytes,
-//! the repeated line, the test tapes.
+//! the clock bytes, the repeated line, the test tapes.
 
 mod cases;
 mod coverage;
@@ -13,7 +13,7 @@ use cases::case::{Case, RunCase};
 use cases::record::cases_of;
 use cases::{chip_cases, sample};
 use model::input::bytes_of_input;
-use model::{line_bytes, listing};
+use model::{clock_bytes, line_bytes, listing};
 use reports::failure::Failure;
 use reports::{chip_report, counter_report, demand3_report, repeat_line};
 use std::env;
@@ -34,6 +34,7 @@ commands:
   demand3  how often demand 3 is checked on the runs of the case file on standard input
   listing  the listing of the tape on standard input
   line_bytes  the object bytes and colour bytes of each line of the tape on standard input (binary)
+  clock_bytes  the state after each clock of a line, its number and tape on standard input (binary)
   repeat_line  the two buffers after as many line calls as standard input asks for (binary)
   tapes DIR  the test tapes, each a file in the folder DIR
 ";
@@ -42,7 +43,7 @@ commands:
 type Run = fn(&[OsString], &mut dyn Read, &mut dyn Write) -> Result<(), Failure>;
 
 /// The commands: name, number of words after it, what is done.
-const COMMANDS: [(&str, usize, Run); 10] = [
+const COMMANDS: [(&str, usize, Run); 11] = [
     ("counter", 0, |_, _, out| Ok(counter_report::write(out)?)),
     ("chip_cases", 0, |_, _, out| chip_cases::write(out)),
     ("chip_sample", 0, |_, _, out| sample::write(out)),
@@ -58,6 +59,9 @@ const COMMANDS: [(&str, usize, Run); 10] = [
     }),
     ("line_bytes", 0, |_, input, out| {
         Ok(line_bytes::write(input, out)?)
+    }),
+    ("clock_bytes", 0, |_, input, out| {
+        Ok(clock_bytes::write(input, out)?)
     }),
     ("repeat_line", 0, |_, input, out| {
         Ok(repeat_line::write(input, out)?)

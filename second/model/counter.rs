@@ -32,6 +32,12 @@ impl Value {
         Ok(Value(bits))
     }
 
+    /// The byte of the bit string, the leftmost bit being the highest.
+    pub fn to_byte(self) -> u8 {
+        let append = |byte: u8, bit: u8| 2 * byte + u8::from(bit == b'1');
+        self.0.into_iter().fold(0, append)
+    }
+
     /// The step without a wrap: every bit moves one place right, and the new leftmost bit
     /// is 1 exactly when the two rightmost old bits are equal. Never refuses.
     fn plain_step(self) -> Value {

@@ -21,8 +21,11 @@
 //! - `input`: standard input, read up to one byte past the longest tape.
 //! - `line_bytes`: the object bytes and colour bytes of a tape's lines, raw; the papers have no such
 //!   program, it is there to compare with.
+//! - `clock_bytes`: what the state holds after each clock of one line of a tape, raw; the papers have
+//!   no such program either.
 
 pub mod clock;
+pub mod clock_bytes;
 pub mod colour;
 pub mod counter;
 pub mod first_lit;

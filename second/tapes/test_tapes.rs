@@ -1,4 +1,5 @@
-//! The test tapes for the listing and the line bytes, each a file of its own, and the writing of them.
+//! The test tapes for the listing, the line bytes and the clock bytes, each a file of its own, and the
+//! writing of them.
 
 use crate::cases::build_tapes::tape_of;
 use crate::cases::damage::DAMAGES;

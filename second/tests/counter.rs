@@ -20,13 +20,13 @@ fn bits_of_count(count: u8) -> String {
 }
 
 /// One step without the wrap, as the paper words it.
-fn plain_step(old: &str) -> String {
+pub fn plain_step(old: &str) -> String {
     let leftmost = if old[4..5] == old[5..] { "1" } else { "0" };
     format!("{}{}", leftmost, &old[..5])
 }
 
 // "Counts 4, 16, 39, 56, 62 are 111100, 011100, 101101, 010100, 000001." "From 000000 this passes
-// 63 different values and returns; 111111 is not among them."
+// 63 different values and returns; 111111 is not among them." "The leftmost bit is the highest."
 #[test]
 fn the_counts_are_the_plain_steps_from_000000_and_back() {
     let bench = [0, 4, 16, 39, 56, 62].map(bits_of_count);
@@ -37,6 +37,7 @@ fn the_counts_are_the_plain_steps_from_000000_and_back() {
         let bits = bits_of_count(count);
         met[usize::from(byte_of(&bits))] += 1;
         assert_eq!(count_of_value(byte_of(&bits)), Ok(count));
+        assert_eq!(value_of_count(count).unwrap().to_byte(), byte_of(&bits));
         assert_eq!(plain_step(&bits), bits_of_count((count + 1) % 63));
     }
     assert_eq!((&met[..63], met[63]), (&[1; 63][..], 0));

@@ -3,6 +3,7 @@
 use crate::cases::bench::PRINTED_TAPE;
 use crate::cases::build_tapes::tape_of;
 use crate::model::{line_bytes, listing};
+use crate::tests::playing::longest_tape;
 
 const HEADING: &str = "line P0 P1 M0 M1 BL PF\n";
 
@@ -77,12 +78,7 @@ fn bench_the_printed_tape_and_refusals_before_and_after_its_lines() {
 // an ordinary tape; single spaces, decimal without padding, `-` for none, no trailing space.
 #[test]
 fn bench_over_65536_bytes_are_too_long() {
-    // 94 lines of 228 writes, one of one write and 523 of none have 65,536 bytes.
-    let full: Vec<u8> = (0..228).flat_map(|clock| [clock, 0x0D, 0]).collect();
-    let mut lists = vec![full.clone(); 94];
-    lists.push(full[..3].to_vec());
-    lists.resize(618, vec![]);
-    let longest = tape_of(&lists);
+    let longest = longest_tape();
     let rows: String = (0..618).map(|n| format!("{n} - - - - - -\n")).collect();
     assert_eq!(longest.len(), 65_536);
     assert_listed(&longest, &[&rows, NO_LATCHES]);

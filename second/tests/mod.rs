@@ -5,6 +5,7 @@ pub mod playing;
 
 mod bench;
 mod clock;
+mod clock_bytes;
 mod colour;
 mod counter;
 mod input;

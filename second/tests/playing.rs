@@ -1,8 +1,9 @@
 //! For tests: single clocks that are accepted, lines played one after another from the start
-//! state, and what they show.
+//! state, and what they show; a tape of the most bytes.
 
 use crate::cases::bench::{checks, Check};
 use crate::cases::build_lists::list_of;
+use crate::cases::build_tapes::tape_of;
 use crate::model::clock::{run, Done, RegisterWrite};
 use crate::model::first_lit::shows;
 use crate::model::line::line;
@@ -58,6 +59,16 @@ pub fn check(name: &str) -> Check {
 pub fn play_check(check: &Check) -> Vec<Played> {
     let lists: Vec<Vec<u8>> = check.lines.iter().map(|line| list_of(line)).collect();
     play(&lists)
+}
+
+/// A tape of 65,536 bytes and 618 lines, on which nothing is ever lit: 94 lines of 228 writes, one of
+/// one write and 523 of none.
+pub fn longest_tape() -> Vec<u8> {
+    let full: Vec<u8> = (0..228).flat_map(|clock| [clock, 0x0D, 0]).collect();
+    let mut lists = vec![full.clone(); 94];
+    lists.push(full[..3].to_vec());
+    lists.resize(618, vec![]);
+    tape_of(&lists)
 }
 
 /// The columns of each line in which an object is lit.

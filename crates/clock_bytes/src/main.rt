@@ -1,0 +1,123 @@
+// Reads from standard input a line's number in two bytes, the higher first, and a tape; writes for each of the 228 clocks of that
+// line a record of 34 bytes about the state after it. Writes nothing for a line that is not run.
+mod lookup;
+mod record;
+
+ghost use mathlib.Core.Path.{_≡_};
+ghost use mathlib.Core.List.{_++_};
+ghost use Prim.Native.Nat.{_+_, _*_, _≤_};
+ghost use lib.ListN.{length};
+ghost use Rattle.tape.specs.Reading.{longest};
+ghost use Rattle.clock_bytes.specs.ClockBytes.{recordOf, lineRecords, tapeRecords, recordAt};
+use crate::lookup::write_at;
+use crate::record::object_bytes;
+use crate::record::shared_bytes;
+use libc::STDIN_FILENO;
+use libc::STDOUT_FILENO;
+use replay::Verdict;
+use tia::ClockAnswer;
+use tia::State;
+
+// The bytes of the line's number.
+const NUMBER_BYTES: usize = 2;
+
+// Room for a number, the longest tape and one byte more.
+const ROOM: usize = NUMBER_BYTES + tape::LONGEST_TAPE + 1;
+
+// More steps than the longest tape has lines.
+const STEPS: u32 = (tape::LONGEST_TAPE + 1) as u32;
+
+// The clocks of a line.
+const CLOCKS: u8 = 228;
+
+// Writes what all objects share and the bytes of the five, which are the record of a clock of the tape's line.
+fn emit(
+    shared: &[u8],
+    p0: &[u8],
+    p1: &[u8],
+    m0: &[u8],
+    m1: &[u8],
+    bl: &[u8],
+    tape: &[u8],
+    number: u32,
+    h: u8,
+)
+    requires { ⌜ now shared ++ (now p0 ++ (now p1 ++ (now m0 ++ (now m1 ++ now bl)))) ≡ recordAt (now tape) number h ⌝ }
+{
+    io::write_all(STDOUT_FILENO, shared);
+    io::write_all(STDOUT_FILENO, p0);
+    io::write_all(STDOUT_FILENO, p1);
+    io::write_all(STDOUT_FILENO, m0);
+    io::write_all(STDOUT_FILENO, m1);
+    io::write_all(STDOUT_FILENO, bl);
+}
+
+// Writes the record of a clock of the tape's line, by the state before it and its answer.
+fn show_clock(state: State, answer: ClockAnswer, tape: &[u8], number: u32, h: u8)
+    requires { ⌜ recordOf state answer ≡ recordAt (now tape) number h ⌝ }
+{
+    let before = state.objects;
+    let next = answer.state;
+    let after = next.objects;
+    let shared = shared_bytes(state, answer);
+    let p0 = object_bytes(before.p0.body, after.p0.body);
+    let p1 = object_bytes(before.p1.body, after.p1.body);
+    let m0 = object_bytes(before.m0, after.m0);
+    let m1 = object_bytes(before.m1, after.m1);
+    let bl = object_bytes(before.bl, after.bl);
+    emit(&shared, &p0, &p1, &m0, &m1, &bl, tape, number, h);
+}
+
+// Runs the clocks of a line, whose records are those of the tape's line with this number, and writes them.
+fn show_line(mut state: State, writes: &[u8], tape: &[u8], number: u32)
+    requires { ⌜ lineRecords state (now writes) ≡ tapeRecords (now tape) number ⌝ }
+{
+    for h in 0..CLOCKS {
+        let answer = tia::colour_clock(state, write_at(writes, h));
+        show_clock(state, answer, tape, number, h);
+        state = answer.state;
+    }
+}
+
+// Plays the lines of a tape from the start state up to the one with this number, and shows its clocks.
+fn show_clocks(number: u32, tape: &[u8])
+    requires { ⌜ length (now tape) ≤ longest ⌝ }
+{
+    let mut bytes = [0u8; 160];
+    let mut colours = [0u8; 160];
+    let mut state = State::start();
+    let mut place = tape::FIRST_PLACE;
+    for step in 0..STEPS {
+        let played = replay::play_line(state, tape, place, &mut bytes, &mut colours);
+        let verdict = played.verdict;
+        let Verdict::Played(next) = verdict else {
+            return;
+        };
+        if step == number {
+            show_line(state, tape::stretch_at(tape, place), tape, number);
+            return;
+        }
+        state = played.state;
+        place = next;
+    }
+}
+
+// The number of two bytes, the higher first.
+fn big_endian(high: u8, low: u8) -> u32
+    ensures { λ r. ⌜ r ≡ 256 * high + low ⌝ }
+{
+    256 * high as u32 + low as u32
+}
+
+// Reads the number and the tape and shows the line's clocks; nothing is written where the number is cut or the tape too long.
+fn main() {
+    let mut room = [0u8; ROOM];
+    let count = io::read_full(STDIN_FILENO, &mut room);
+    if count < NUMBER_BYTES {
+        return;
+    }
+    if count < ROOM {
+        let number = big_endian(room[0], room[1]);
+        show_clocks(number, &room[NUMBER_BYTES..count]);
+    }
+}
