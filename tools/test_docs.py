@@ -72,7 +72,7 @@ class Documents(unittest.TestCase):
                     self.assertTrue(tried and tried[1] in there, program)
 
     def test_names_are_there(self):
-        there = words("crates") | words("second") | words("tools") | set(edits()) | COMMANDS
+        there = words("crates") | words("second") | words("classroom") | words("tools") | set(edits()) | COMMANDS
         for name in NAMING:
             quoted = [name for name in QUOTED.findall((DOCS / name).read_text("utf-8")) if NAME.fullmatch(name)]
             self.assertGreater(len(quoted), 50)

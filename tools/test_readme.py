@@ -1,4 +1,4 @@
-"""Tests that README.md shows what its commands print. Needs target/bin/line_bytes and target/bin/listing.
+"""Tests that README.md shows what its commands print; they build their programs where these are missing.
 Run: python3 tools/test_readme.py"""
 
 import re
@@ -9,6 +9,9 @@ import unittest
 from pathlib import Path
 
 sys.dont_write_bytecode = True
+sys.path.insert(0, str(Path(__file__).resolve().parent.parent))
+
+from classroom.television import pixels_of
 
 PROJECT = Path(__file__).resolve().parent.parent
 INDENT = "    "
@@ -37,10 +40,10 @@ def commands(readme):
 
 
 def run(command, folder):
-    """What a command prints in the project's folder, with mine.txt in another one."""
+    """What a command prints in the project's folder, with mine.txt in another one, whose name is left out again."""
     here = command.replace("mine.txt", str(Path(folder) / "mine.txt"))
     done = subprocess.run(["bash", "-c", here], cwd=PROJECT, capture_output=True, text=True)
-    return done.stdout + done.stderr
+    return (done.stdout + done.stderr).replace(f"{folder}/", "")
 
 
 class Readme(unittest.TestCase):
@@ -48,20 +51,29 @@ class Readme(unittest.TestCase):
         self.readme = blocks((PROJECT / "README.md").read_text("utf-8"))
 
     def test_commands_print_what_is_shown(self):
-        self.assertGreaterEqual(len(commands(self.readme)), 3)
+        self.assertEqual(len(commands(self.readme)), 3)
         with tempfile.TemporaryDirectory() as folder:
             (Path(folder) / "mine.txt").write_text(source(self.readme) + "\n")
             for command, shown in commands(self.readme):
                 with self.subTest(command=command):
                     self.assertEqual(run(command, folder).rstrip("\n"), shown)
 
-    def test_the_lesson_has_ten_lines(self):
-        self.assertEqual(len(source(self.readme).split("\n")), 10)
+    def test_the_two_commands(self):
+        look, picture = [block for block in self.readme if block.startswith("./glintstool ")]
+        self.assertEqual(run(look, "."), (PROJECT / "lessons/05-moving-right.picture").read_text("utf-8"))
+        self.assertTrue(picture.endswith(" -o mine.png"))
+        with tempfile.TemporaryDirectory() as folder:
+            self.assertEqual(run(picture.replace("mine.png", f"{folder}/mine.png"), folder), "")
+            drawn = pixels_of((Path(folder) / "mine.png").read_bytes())
+        self.assertEqual(drawn, pixels_of((PROJECT / "lessons/15-landscape.png").read_bytes()))
+
+    def test_the_lesson_has_eleven_lines(self):
+        self.assertEqual(len(source(self.readme).split("\n")), 11)
 
     def test_the_suggested_change(self):
         with tempfile.TemporaryDirectory() as folder:
-            (Path(folder) / "mine.txt").write_text(source(self.readme).replace("$70", "$F0") + "\n")
-            listing = run("tools/assemble mine.txt | target/bin/listing", folder).split("\n")
+            (Path(folder) / "mine.txt").write_text(source(self.readme).replace("+7", "-1") + "\n")
+            listing = run("./glintstool list mine.txt", folder).split("\n")
         self.assertEqual([row.split()[3] for row in listing[1:5]], ["-", "36", "37", "37"])
 
     def test_every_link_leads_somewhere(self):

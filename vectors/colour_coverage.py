@@ -14,7 +14,7 @@ from colour_rule import (
     of_half,
     register_shown,
 )
-from picture import LETTERS, UNSHOWN, lit
+from classroom.lines import OBJECTS, UNSHOWN, lit
 from scenes import BITS, PRIORITY, colour, order_by
 
 TEAMS = {"P": "P0 or M0", "Q": "P1 or M1", "B": "BL or PF"}
@@ -129,7 +129,7 @@ COLOUR_ROWS = (
     ("score seen", SCORES, scores),
     ("order seen", ORDERS, orders),
     ("register seen", COLOUR_REGISTERS, registers_seen),
-    ("colour seen of", (*LETTERS, "nothing"), objects_seen),
+    ("colour seen of", (*OBJECTS, "nothing"), objects_seen),
     ("bit 0 set in a colour shown", COLOUR_REGISTERS, odd_shown),
     ("rewritten in a column", READ, rewritten),
     ("rewritten, one clock later would be seen", READ, late_seen),

@@ -3,9 +3,9 @@ line, and the register whose colour a column shows. The comparison itself does n
 
 from typing import NamedTuple
 
-from notation import NAMES
-from picture import COLUMNS, UNSHOWN
-from scenes import BLANK, PRIORITY, colour, order_by
+from scenes import PRIORITY, colour, order_by  # finds the project's modules too
+from classroom.lines import BLANK, COLUMNS, UNSHOWN
+from classroom.registers import NAMES
 
 COLOUR_REGISTERS = ("COLUP0", "COLUP1", "COLUPF", "COLUBK")
 READ = ("CTRLPF", *COLOUR_REGISTERS)  # what a column's colour is read from, beside its object byte

@@ -3,9 +3,9 @@ is seen of the colours."""
 
 from colour_coverage import COLOUR_ROWS
 from colour_rule import columns_of
-from notation import REGISTERS
-from picture import LATCHES, LETTERS, lit, met
-from scenes import BLANK, PICTURES, PLAYERS_FIRST, PLAYFIELD_FIRST, colour_order, drawn
+from classroom.lines import BLANK, LATCHES, OBJECTS, lit, met
+from classroom.registers import REGISTERS
+from scenes import PICTURES, PLAYERS_FIRST, PLAYFIELD_FIRST, colour_order, drawn
 
 PAIRS = [pair for pairs in LATCHES for pair in pairs]
 BLANKED = 64  # object byte of a blanked column
@@ -40,7 +40,7 @@ def coverage(kind, scenes, last_lines):
         counts(title, range(size), (values(scene, *place, size) for scene in scenes)) for title, *place, size in FIELDS
     ]
     return [
-        counts("last line lights", LETTERS, map(lighting, last_lines)),
+        counts("last line lights", OBJECTS, map(lighting, last_lines)),
         counts("last line has", ("overlaps", "blanked columns"), map(overlaps_and_blanks, last_lines)),
         counts("last line has together", PAIRS, map(together, last_lines)),
         counts("emulator latched", ("any", *PAIRS), map(latched, scenes)),

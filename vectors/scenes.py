@@ -5,15 +5,14 @@ import sys
 from pathlib import Path
 from typing import NamedTuple
 
-sys.path.insert(0, str(Path(__file__).resolve().parent.parent / "tools"))
+sys.path.insert(0, str(Path(__file__).resolve().parent.parent))
 
-from notation import REGISTERS
-from picture import COLUMNS, LATCHES, UNSHOWN
-from tape_forms import TapeError, unpack
+from classroom.lines import BLANK, COLUMNS, LATCHES, UNSHOWN
+from classroom.registers import REGISTERS
+from classroom.tape_forms import TapeError, unpack
 
 FOLDER = Path(__file__).resolve().parent
 LINES = 6
-BLANK = 68  # colour clocks of a line before column 0
 BITS = {"P": 0b000101, "Q": 0b001010, "B": 0b110000}  # of an object byte: P0 and M0, P1 and M1, BL and PF
 PLAYERS_FIRST, PLAYFIELD_FIRST = "PQB", "BPQ"  # the colour orders: CTRLPF bit 2 clear, and set
 PRIORITY = 0x04  # CTRLPF's bit for the playfield first

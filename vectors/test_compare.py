@@ -13,9 +13,9 @@ from scenes import COLOURS, FILES, FOLDER, PICTURES, PLAYERS_FIRST, PLAYFIELD_FI
 from scenes import colour, colour_order, drawn, scene_in, scenes_in, shown_by
 from colour_rule import COLOUR_REGISTERS, Column, colour_shown, columns_of, register_shown, registers_at_clocks
 from coverage import coverage
-from notation import REGISTERS
-from picture import Line, lines_of
-from tape_forms import pack
+from classroom.lines import Line, lines_of
+from classroom.registers import REGISTERS
+from classroom.tape_forms import pack
 
 PROJECT = Path(__file__).resolve().parent.parent
 PROGRAMS = ("target/bin/line_bytes", "target/bin/listing")

@@ -1,0 +1,1 @@
+"""The modules of ./glintstool, the command for a class."""
