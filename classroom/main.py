@@ -2,6 +2,7 @@
 
 import argparse
 import difflib
+import os
 import re
 import sys
 
@@ -249,6 +250,8 @@ def arguments_of(words):
 
 def main(words):
     """Runs the command. Gives the exit status, which is 0 also where the reader of the output ended before it."""
+    if sys.stderr is None:  # closed: messages go nowhere, and the output stays as it is
+        sys.stderr = open(os.devnull, "w", encoding="utf-8")
     try:
         arguments = arguments_of(words)
         return arguments.run(arguments)

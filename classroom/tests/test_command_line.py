@@ -433,6 +433,13 @@ class Outputs(Case):
             self.assertEqual(done.returncode, 1)
             self.assertRegex(done.stderr.decode(), r"\Astandard output: cannot be written: [^\n]*\n\Z")
 
+    def test_closed_messages(self):
+        hinted = "line\n 0 ENAM0 1\nline\n"
+        shown = self.run_command("look", "--quiet", "-", data=hinted.encode())
+        command = ["sh", "-c", 'exec "$0" "$@" 2>&-', *COMMAND, "look", "-"]
+        done = subprocess.run(command, input=hinted.encode(), stdout=subprocess.PIPE, cwd=self.folder)
+        self.assertEqual((done.returncode, done.stdout), (0, shown[1]))
+
     def test_a_closed_pipe(self):
         pipes = {"stdin": subprocess.PIPE, "stdout": subprocess.PIPE, "stderr": subprocess.PIPE}
         for verb in ("look", "list", "disassemble"):

@@ -6,6 +6,7 @@ use Prim.Native.Nat.{ℕ, zero, suc, _+_, _-_, _≤_, _<_}
 use native.Mathlib.Nat.{add-zero, zero-add, add-suc, suc-add}
 use native.Mathlib.Omega.{arith}
 use lib.ListN.{length, take, drop, getD, length-drop}
+use lib.Seq.{take-all}
 use Rattle.tia.specs.declared.answers.ClockAnswer.{ClockAnswer}
 use Rattle.tia.specs.declared.state.State.{State}
 use Rattle.tia.specs.declared.write.Write.{Write}
@@ -24,7 +25,7 @@ use Rattle.replay.proofs.PlayLaws.{play-answered}
 use Rattle.replay.specs.Replay.{PlayedLine, stateAfterLines, lineFrom, replayFrom, replayOf}
 use Rattle.replay.proofs.ReplayLaws.{enough}
 use Rattle.replay.proofs.FollowLaws.{Followed, followed-none, followed-here, followed-more}
-use Rattle.clock_bytes.specs.ClockBytes.{objectBytes, sharedBytes, recordOf, recordsFrom, lineRecords, firstRecords, tapeRecords, recordAt}
+use Rattle.clock_bytes.specs.ClockBytes.{objectBytes, sharedBytes, recordOf, recordsFrom, lineRecords, firstRecords, tapeRecords, numberOf, inputRecords, recordAt}
 
 -- Fewer than three bytes hold no record.
 records-none : (ws : List ℕ) → length ws ≤ 2 → recordsOf ws ≡ []
@@ -107,17 +108,26 @@ pub line-record :
 unfolding lineRecords stateBefore
 line-record s ws h below = rw (zero-add h) at (record-of (writeAt (recordsOf ws)) s 228 0 h below)
 
--- A clock of the line: its record is that of the tape's line, and the next state is the one before the next clock.
+-- A clock of the line: its record is that of the line that the input names, and the next state is the one before the next clock.
 module _
     (s₀ : State) (ws : List ℕ) (h : ℕ) (s : State) (w : Write) (answer : ClockAnswer)
     (reached : s ≡ stateBefore (writeAt (recordsOf ws)) s₀ h) (found : w ≡ writeAt (recordsOf ws) h) (answered : answer ≡ clockAnswer s w) where
-  pub clock-record :
-      (tape : List ℕ) (number : ℕ) → h < 228 → lineRecords s₀ ws ≡ tapeRecords tape number → recordOf s answer ≡ recordAt tape number h
-  clock-record tape number below same =
+  pub clock-record : (input : List ℕ) → h < 228 → lineRecords s₀ ws ≡ inputRecords input → recordOf s answer ≡ recordAt input h
+  clock-record input below same =
       rw (answered, found, reached) (sym (line-record s₀ ws h below) ∙ ap (λ (rs : List (List ℕ)). getD rs h []) same)
 
   pub clock-next : answer .state ≡ stateBefore (writeAt (recordsOf ws)) s₀ (h + 1)
   clock-next = rw (answered, found, reached) (before-next (writeAt (recordsOf ws)) s₀ h)
+
+-- The input's two parts: its number, and all that follows, its tape.
+pub input-parts :
+    (input : List ℕ) (number : ℕ) → length input ≤ 2 + longest → number ≡ numberOf input →
+    (length (take (length input - 2) (drop 2 input)) ≤ longest)
+    × (tapeRecords (take (length input - 2) (drop 2 input)) number ≡ inputRecords input)
+input-parts input number short e = rw (whole, e) (rw (length-drop 2 input) (omega arith), refl)
+  where
+    whole : take (length input - 2) (drop 2 input) ≡ drop 2 input
+    whole = take-all (length input - 2) (drop 2 input) (rw (length-drop 2 input) (omega arith))
 
 -- The line after so many.
 take-passed : (ls later : List PlayedLine) → take (length ls) (ls ++ later) ≡ ls

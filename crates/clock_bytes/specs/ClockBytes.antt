@@ -1,5 +1,5 @@
 -- What is written for each clock of a line: a record of 34 bytes about the state after the clock.
-use Prim.Native.Nat.{ℕ, zero, suc, _+_, _/_, _%_}
+use Prim.Native.Nat.{ℕ, zero, suc, _+_, _*_, _/_, _%_}
 use mathlib.Core.Bool.{Bool, cond}
 use mathlib.Core.List.{List, [], _∷_, _++_}
 use lib.Dec.{eqb}
@@ -74,6 +74,13 @@ tapeRecords tape number =
     let lines = replayOf tape .lines in
     firstRecords (stateAfterLines startState (take number lines)) (drop number lines)
 
+-- What is read: a line's number in two bytes, the higher first, then a tape.
+abbrev pub numberOf : (input : List ℕ) → ℕ
+numberOf input = 256 * getD input 0 0 + getD input 1 0
+
+abbrev pub inputRecords : (input : List ℕ) → List (List ℕ)
+inputRecords input = tapeRecords (drop 2 input) (numberOf input)
+
 -- The record of clock h of that line.
-abbrev pub recordAt : (tape : List ℕ) (number h : ℕ) → List ℕ
-recordAt tape number h = getD (tapeRecords tape number) h []
+abbrev pub recordAt : (input : List ℕ) (h : ℕ) → List ℕ
+recordAt input h = getD (inputRecords input) h []

@@ -8,7 +8,7 @@ ghost use mathlib.Core.List.{_++_};
 ghost use Prim.Native.Nat.{_+_, _*_, _≤_};
 ghost use lib.ListN.{length};
 ghost use Rattle.tape.specs.Reading.{longest};
-ghost use Rattle.clock_bytes.specs.ClockBytes.{recordOf, lineRecords, tapeRecords, recordAt};
+ghost use Rattle.clock_bytes.specs.ClockBytes.{recordOf, lineRecords, tapeRecords, inputRecords, recordAt};
 use crate::lookup::write_at;
 use crate::record::object_bytes;
 use crate::record::shared_bytes;
@@ -30,19 +30,9 @@ const STEPS: u32 = (tape::LONGEST_TAPE + 1) as u32;
 // The clocks of a line.
 const CLOCKS: u8 = 228;
 
-// Writes what all objects share and the bytes of the five, which are the record of a clock of the tape's line.
-fn emit(
-    shared: &[u8],
-    p0: &[u8],
-    p1: &[u8],
-    m0: &[u8],
-    m1: &[u8],
-    bl: &[u8],
-    tape: &[u8],
-    number: u32,
-    h: u8,
-)
-    requires { ⌜ now shared ++ (now p0 ++ (now p1 ++ (now m0 ++ (now m1 ++ now bl)))) ≡ recordAt (now tape) number h ⌝ }
+// Writes what all objects share and the bytes of the five, which are the record of a clock of the line that the input names.
+fn emit(shared: &[u8], p0: &[u8], p1: &[u8], m0: &[u8], m1: &[u8], bl: &[u8], input: &[u8], h: u8)
+    requires { ⌜ now shared ++ (now p0 ++ (now p1 ++ (now m0 ++ (now m1 ++ now bl)))) ≡ recordAt (now input) h ⌝ }
 {
     io::write_all(STDOUT_FILENO, shared);
     io::write_all(STDOUT_FILENO, p0);
@@ -52,9 +42,9 @@ fn emit(
     io::write_all(STDOUT_FILENO, bl);
 }
 
-// Writes the record of a clock of the tape's line, by the state before it and its answer.
-fn show_clock(state: State, answer: ClockAnswer, tape: &[u8], number: u32, h: u8)
-    requires { ⌜ recordOf state answer ≡ recordAt (now tape) number h ⌝ }
+// Writes the record of a clock of the line that the input names, by the state before it and its answer.
+fn show_clock(state: State, answer: ClockAnswer, input: &[u8], h: u8)
+    requires { ⌜ recordOf state answer ≡ recordAt (now input) h ⌝ }
 {
     let before = state.objects;
     let next = answer.state;
@@ -65,23 +55,23 @@ fn show_clock(state: State, answer: ClockAnswer, tape: &[u8], number: u32, h: u8
     let m0 = object_bytes(before.m0, after.m0);
     let m1 = object_bytes(before.m1, after.m1);
     let bl = object_bytes(before.bl, after.bl);
-    emit(&shared, &p0, &p1, &m0, &m1, &bl, tape, number, h);
+    emit(&shared, &p0, &p1, &m0, &m1, &bl, input, h);
 }
 
-// Runs the clocks of a line, whose records are those of the tape's line with this number, and writes them.
-fn show_line(mut state: State, writes: &[u8], tape: &[u8], number: u32)
-    requires { ⌜ lineRecords state (now writes) ≡ tapeRecords (now tape) number ⌝ }
+// Runs the clocks of a line, whose records are those of the line that the input names, and writes them.
+fn show_line(mut state: State, writes: &[u8], input: &[u8])
+    requires { ⌜ lineRecords state (now writes) ≡ inputRecords (now input) ⌝ }
 {
     for h in 0..CLOCKS {
         let answer = tia::colour_clock(state, write_at(writes, h));
-        show_clock(state, answer, tape, number, h);
+        show_clock(state, answer, input, h);
         state = answer.state;
     }
 }
 
-// Plays the lines of a tape from the start state up to the one with this number, and shows its clocks.
-fn show_clocks(number: u32, tape: &[u8])
-    requires { ⌜ length (now tape) ≤ longest ⌝ }
+// Plays the lines of the input's tape from the start state up to the one with its number, and shows its clocks.
+fn show_clocks(number: u32, tape: &[u8], input: &[u8])
+    requires { ⌜ (length (now tape) ≤ longest) × (tapeRecords (now tape) number ≡ inputRecords (now input)) ⌝ }
 {
     let mut bytes = [0u8; 160];
     let mut colours = [0u8; 160];
@@ -94,7 +84,7 @@ fn show_clocks(number: u32, tape: &[u8])
             return;
         };
         if step == number {
-            show_line(state, tape::stretch_at(tape, place), tape, number);
+            show_line(state, tape::stretch_at(tape, place), input);
             return;
         }
         state = played.state;
@@ -109,15 +99,22 @@ fn big_endian(high: u8, low: u8) -> u32
     256 * high as u32 + low as u32
 }
 
-// Reads the number and the tape and shows the line's clocks; nothing is written where the number is cut or the tape too long.
+// Shows the clocks of the line that an input names; nothing where its number is cut.
+fn show_input(input: &[u8])
+    requires { ⌜ length (now input) ≤ 2 + longest ⌝ }
+{
+    if input.len() < NUMBER_BYTES {
+        return;
+    }
+    let number = big_endian(input[0], input[1]);
+    show_clocks(number, &input[NUMBER_BYTES..], input);
+}
+
+// Reads the input and shows the clocks of its line; nothing is written where the tape is too long.
 fn main() {
     let mut room = [0u8; ROOM];
     let count = io::read_full(STDIN_FILENO, &mut room);
-    if count < NUMBER_BYTES {
-        return;
-    }
     if count < ROOM {
-        let number = big_endian(room[0], room[1]);
-        show_clocks(number, &room[NUMBER_BYTES..count]);
+        show_input(&room[..count]);
     }
 }

@@ -9,18 +9,18 @@ use Rattle.clock_bytes.proofs.show_clocks.Statement.{statement}
 use Rattle.clock_bytes.proofs.show_clocks.Tie as tie
 
 abbrev Inv-loop : tie.InvT-loop
-Inv-loop number tape bytes₀ colours₀ state₀ place₀ step₀ bytes colours state place step =
+Inv-loop number tape input bytes₀ colours₀ state₀ place₀ step₀ bytes colours state place step =
     (step ≤ enough) × (length bytes ≡ 160) × (length colours ≡ 160) × Passed tape step state place
 
 abbrev μ-loop : tie.MeasureT-loop
-μ-loop number tape bytes₀ colours₀ state₀ place₀ step₀ bytes colours state place step = enough - step
+μ-loop number tape input bytes₀ colours₀ state₀ place₀ step₀ bytes colours state place step = enough - step
 
 start-requires : tie.Need-start-requires Inv-loop μ-loop
 start-requires c κs = search needs
 
 loop-holds : tie.Need-loop-holds Inv-loop μ-loop
 loop-holds c =
-    (search needs, refl, refl, rw (c .start .ensures) (passed-none (c .before .before .args .tape .now) (search needs)))
+    (search needs, refl, refl, rw (c .start .ensures) (passed-none (c .before .before .before .args .tape .now) (search needs)))
 
 slice-aggregate-play-line : tie.Need-slice-aggregate-play-line Inv-loop μ-loop
 slice-aggregate-play-line c = search needs
@@ -45,8 +45,9 @@ show-line-requires c κs =
     let told = c .before .before .before in
     let played = told .before .before .before .before in
     let turn = played .before .before .before in
+    let start = turn .before .before .before .before .before in
     let inv = turn .before .loop .inv in
-    rw (c .stretch-at .ensures .0, ← c .before .if1 .taken)
+    rw (c .stretch-at .ensures .0, ← start .pre .1, ← c .before .if1 .taken)
     (records-played
     _
     _

@@ -8,11 +8,11 @@ use Rattle.clock_bytes.proofs.show_line.Statement.{statement}
 use Rattle.clock_bytes.proofs.show_line.Tie as tie
 
 abbrev Inv-loop : tie.InvT-loop
-Inv-loop state₀ writes tape number h₀ state h =
+Inv-loop state₀ writes input h₀ state h =
     (h ≤ 228) × (state ≡ stateBefore (writeAt (recordsOf writes)) state₀ h)
 
 abbrev μ-loop : tie.MeasureT-loop
-μ-loop state₀ writes tape number h₀ state h = 228 - h
+μ-loop state₀ writes input h₀ state h = 228 - h
 
 loop-holds : tie.Need-loop-holds Inv-loop μ-loop
 loop-holds c = (search needs, before-first _ _)
@@ -36,8 +36,7 @@ show-clock-requires c κs =
     (turn .loop .inv .1)
     (c .before .write-at .ensures)
     (c .colour-clock .ensures)
-    _
-    _
+    (turn .before .before .before .args .input .now)
     (c .before .before .loop-test .taken)
     (turn .before .before .before .pre)
 
