@@ -11,7 +11,7 @@ class Failure(Exception):
 
 def read_input(name):
     """The input's name in messages, and its bytes. Fails with Failure where it cannot be read."""
-    title = "standard input" if name == "-" else name
+    title = "standard input" if name == "-" else title_of(name)
     try:
         with open(0 if name == "-" else name, "rb", closefd=name != "-") as file:
             return title, file.read()
@@ -19,6 +19,11 @@ def read_input(name):
         raise Failure(f"{title}: found no such file: {file_meant(name)}") from None
     except OSError as error:
         raise Failure(f"{title}: cannot be read: {error.strerror}: name another file") from None
+
+
+def title_of(name):
+    """A file's name as messages show it: what is no text in it is replaced, and an empty name is quoted."""
+    return os.fsencode(name).decode("utf-8", "replace") or "''"
 
 
 def file_meant(name):
@@ -31,7 +36,7 @@ def file_meant(name):
 
 def write_output(name, input_name, data):
     """Writes the bytes to the output. Fails with Failure where it cannot be written or is the input itself."""
-    title, advice = ("standard output", "") if name == "-" else (name, ": name another file with -o")
+    title, advice = ("standard output", "") if name == "-" else (title_of(name), ": name another file with -o")
     try:
         if name != "-" and os.path.exists(name) and is_input(name, input_name):
             raise Failure(f"{title}: cannot be written: it is the input{advice}")

@@ -9,6 +9,7 @@ from classroom.lines import COLUMNS, OBJECTS, UNSHOWN, lit, span
 LETTERS = dict(zip(OBJECTS, "PQMNBF"))
 MARKS = {**LETTERS, "overlap": "*", "blanked": "-", "nothing": "."}
 MARGIN = 6  # characters left of a row: the line's number and a space
+NARROWEST = 10  # columns side by side, however narrow the terminal is
 
 
 class Layout(NamedTuple):
@@ -27,7 +28,9 @@ def fitting_layout(width):
         return WHOLE
     if width > MARGIN + 80:
         return Layout(80)
-    return Layout(80, above=True) if width >= 80 else Layout(40)
+    if width >= 80:
+        return Layout(80, above=True)
+    return Layout(min(40, max(NARROWEST, width - MARGIN)))
 
 
 def plain(character, object_byte, colour_byte):
@@ -56,7 +59,7 @@ def picture(lines, numbers, layout, look):
         for number in numbers:
             rows += line_rows(lines[number], number, columns, layout, look)
         rows.append("")
-    return [*rows, legend([lines[number].objects for number in numbers])]
+    return [*rows, *legend([lines[number].objects for number in numbers], width_of(layout))]
 
 
 def line_rows(line, number, columns, layout, look):
@@ -64,9 +67,9 @@ def line_rows(line, number, columns, layout, look):
     row = marks(line, columns, look)
     found = overlaps(line.objects, columns)
     if not layout.above:
-        return [f"{number:{MARGIN - 1}} {row}", *overlap_rows(found, " " * MARGIN + "overlap", MARGIN + layout.fold)]
+        return [f"{number:{MARGIN - 1}} {row}", *filled_rows(found, " " * MARGIN + "overlap", width_of(layout))]
     title = f"line {number}"
-    return [*(overlap_rows(found, f"{title}: overlap", layout.fold) or [title]), row]
+    return [*(filled_rows(found, f"{title}: overlap", width_of(layout)) or [title]), row]
 
 
 def marks(line, columns, look):
@@ -107,21 +110,26 @@ def overlaps(objects, columns):
     return found
 
 
-def overlap_rows(found, title, width):
-    """The rows that name these overlaps after a title, a new one begun where the width would be passed; none without overlaps."""
+def filled_rows(parts, title, width):
+    """The rows that name these parts after a title, a new one begun where the width would be passed; none without parts."""
     rows = []
-    for overlap in found:
-        if rows and len(rows[-1]) + len(f", {overlap}") <= width:
-            rows[-1] += f", {overlap}"
+    for part in parts:
+        if rows and len(rows[-1]) + len(f", {part}") <= width:
+            rows[-1] += f", {part}"
         else:
-            rows.append(f"{title} {overlap}")
+            rows.append(f"{title} {part}")
     return rows
 
 
-def legend(objects):
-    """What each character stands for that shows one of these lines' object bytes."""
+def legend(objects, width):
+    """The rows that say what each character stands for that shows one of these lines' object bytes, within a width."""
     found = {mark(byte) for byte in set().union(*objects)}
-    return "legend: " + ", ".join(f"{letter} = {name}" for name, letter in MARKS.items() if letter in found)
+    return filled_rows([f"{letter} = {name}" for name, letter in MARKS.items() if letter in found], "legend:", width)
+
+
+def width_of(layout):
+    """How many characters wide the rows of a layout are."""
+    return layout.fold + (0 if layout.above else MARGIN)
 
 
 def not_run(first, final, count):

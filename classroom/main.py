@@ -43,14 +43,26 @@ EXAMPLES = {
   ./glintstool disassemble lessons/03-printed-case.tape
   ./glintstool disassemble mine.tape -o mine.txt""",
 }
-STATUS = "exit status: 0; 1 after a message, and for a tape that the chip refuses; 2 for a wrong command line"
+STATUS = "exit status: 0; 1 where a file is wrong, no line was run, or the chip refuses the tape; 2 for a wrong command line"
+
+
+# What a message says of a part of the command line that is missing, and what to add.
+MISSING = {
+    "FILE": "expected a source or a tape: add its name, such as lessons/05-moving-right.txt",
+    "-o": "expected a file to write: add '-o' and its name, such as -o mine.{}",
+    "--line": "expected a line: add '--line' and its number, such as --line 0",
+}
+KINDS = {"picture": "png", "page": "html"}
 
 
 class Parser(argparse.ArgumentParser):
-    """A parser whose messages end with where to read on."""
+    """A parser whose messages say what to add and where to read on."""
 
     def error(self, message):
         """Ends with status 2 and the message."""
+        first = re.match("the following arguments are required: ([^,]+)", message)
+        if first and first[1] in MISSING:
+            message = MISSING[first[1]].format(KINDS.get(self.prog.split()[-1]))
         self.exit(2, f"{self.prog}: {message}\nsee './{self.prog} --help'\n")
 
 
@@ -88,7 +100,7 @@ def look_options(parser):
     words = "break the rows into parts of N columns (default: as wide as the terminal)"
     parser.add_argument("--fold", type=columns_named, metavar="N", help=words)
     words = "write colours: auto (default) where the terminal has them and NO_COLOR is not set, always, never"
-    parser.add_argument("--colour", "--color", choices=CHOICES, default="auto", metavar="WHEN", help=words)
+    parser.add_argument("--colour", "--color", type=choice_named, default="auto", metavar="WHEN", help=words)
     add_pal(parser)
     add_quiet(parser)
 
@@ -213,6 +225,13 @@ def line_named(text):
     return number_named(text, "a line", 0, 65535)
 
 
+def choice_named(text):
+    """The choice of colours that a text names. Fails with ArgumentTypeError."""
+    if text not in CHOICES:
+        raise argparse.ArgumentTypeError(f"found {text!r}: expected {', '.join(CHOICES)}")
+    return text
+
+
 def object_named(text):
     """The object that moves that a text names. Fails with ArgumentTypeError."""
     if text.upper() not in MOVABLE:
@@ -227,6 +246,9 @@ def wrong_verb(parser, words):
         parser.print_help(sys.stderr)
         parser.exit(2)
     word = words[0]
+    if word == "help":
+        parser.print_help()
+        parser.exit()
     if word in (*verb_names, "-h", "--help"):
         return
     alike = difflib.get_close_matches(word, verb_names, 1)

@@ -8,6 +8,8 @@ from classroom.registers import LEFT_OUT, NAMES, REGISTERS, is_strobe, takes_mot
 from classroom.tape_forms import LENGTH, MOST_BYTES, MOST_WRITES, RECORD, pack, unpack
 
 LINE_END = re.compile("\r\n|\r|\n")
+WORD = re.compile("[^ \t\xa0]+")
+COMMENTS = ("#", "//")  # of other notations
 NUMBER = re.compile(r"\$(?P<hexadecimal>[0-9A-Fa-f]+)|%(?P<binary>[01]+)|(?P<decimal>[0-9]+)")
 BASES = {"hexadecimal": 16, "binary": 2, "decimal": 10}
 SIGNED = re.compile("([+-])0*([0-9])")
@@ -16,6 +18,8 @@ TOO_LONG = f"here the tape passes {MOST_BYTES:,} bytes, the most that it may hav
 
 # Marks of other notations: a number with them, the number without them, and what is wrong.
 FOREIGN = (
+    (re.compile("[\u2212\u2013\u2014\uff0d]([0-9]+)"), "-{}", "minus is written with '-'"),
+    (re.compile("\uff0b([0-9]+)"), "+{}", "plus is written with '+'"),
     (re.compile("#+(.+)"), "{}", "a number is written without '#'"),
     (re.compile("0[xX]0*([0-9A-Fa-f]+)"), "${:0>2}", "hexadecimal is written with '$', not with '0x'"),
     (re.compile("0*([0-9A-Fa-f]+)[hH]"), "${:0>2}", "hexadecimal is written with '$', not with 'h'"),
@@ -116,7 +120,7 @@ def disassemble(tape):
 
 def rows(text):
     """The rows of a text that say something: their numbers, counted from 1, and their tokens."""
-    split = ((number, re.findall("[^ \t]+", row.partition(";")[0])) for number, row in enumerate(LINE_END.split(text), start=1))
+    split = ((number, re.findall(WORD, row.partition(";")[0])) for number, row in enumerate(LINE_END.split(text), start=1))
     return [(number, tokens) for number, tokens in split if tokens]
 
 
@@ -141,6 +145,9 @@ class Reader:
 
     def take(self, row, tokens):
         """Takes a row of the text. A row with commas is wrong, and is taken as if it had blanks in their place."""
+        if is_comment(tokens):
+            self.errors[row] = f"found {shown(tokens[0])}: a comment begins with ';'"
+            return
         if any("," in token for token in tokens):
             self.errors[row] = commas(tokens)
             tokens = " ".join(tokens).replace(",", " ").split()
@@ -235,6 +242,11 @@ class Reader:
             self.lines += more * body
 
 
+def is_comment(tokens):
+    """Whether a row is a comment as other notations write it: its first token begins as one, and is no number."""
+    return tokens[0].startswith(COMMENTS) and NUMBER.fullmatch(plain(tokens[0])[0]) is None
+
+
 def row_past(lines, room):
     """The row that passes so many bytes in the tape of these scanlines, which has more."""
     for begun, writes in lines:
@@ -266,6 +278,9 @@ def write_of(tokens):
     if len(tokens) == 1:
         raise ValueError("found a clock alone: expected a register after it, such as HMM0")
     address = address_of(tokens[1])
+    if len(tokens) == 4 and plain(tokens[2] + tokens[3])[0][:1] in ("+", "-"):
+        together = plain(tokens[2] + tokens[3])[0]
+        raise ValueError(f"found {shown(tokens[2])} alone: a sign stands before its number without a blank: write {cut(together)}")
     if len(tokens) > 3:
         raise ValueError(f"found {shown(tokens[3])} after the value: {NOTHING_MORE}")
     if len(tokens) == 3:
@@ -281,6 +296,9 @@ def address_of(token):
         return number_of(token, ADDRESS)
     refuse_left_out(token)
     name = token.upper()
+    register, equals, value = token.partition("=")
+    if equals and register.upper() in REGISTERS:
+        raise ValueError(f"found {shown(token)}: a value stands after a blank, without '=': write {cut(f'{register} {value}'.strip())}")
     if not token.isascii() or name not in REGISTERS:
         expected = f"expected a register name such as {alike(name)}, or an address from $00 to $FF"
         raise ValueError(f"unknown register {shown(token)}: {expected}")
@@ -336,7 +354,7 @@ def instead(token, wanted):
     """What to write for a token that is no number in the notation, where this number is wanted."""
     least, most = wanted.least, wanted.most
     meant, wrong = plain(token)
-    if wrong and is_number(meant, wanted):
+    if wrong and (is_number(meant, wanted) or wanted is MOTION_VALUE and SIGNED.fullmatch(meant)):
         return f"{wrong}: write {cut(meant)}"
     if token[0] in "+-":
         number = token[1:] if token[0] == "+" and is_number(token[1:], wanted) else f"a number from {least} to {most}"

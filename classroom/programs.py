@@ -17,6 +17,8 @@ from classroom.lines import Replay, lines_of
 PROJECT = Path(__file__).resolve().parent.parent
 BIN = PROJECT / "target/bin"
 CRATES = PROJECT / "crates.txt"
+STAMPS = PROJECT / "target/stamp"  # of the crates that rt has proved
+PROGRAMS = ("line_bytes", "listing", "clock_bytes")
 PROVED = re.compile(r"rt: (\w+) proved(?: \((\d+) s\))?")
 BAR = 24  # characters of the bar, with which a row has room on 80 columns
 NO_RT = "'rt' is missing: install the Rattle kit and put its bin folder on PATH; it proves and builds the programs"
@@ -24,7 +26,7 @@ NO_RT = "'rt' is missing: install the Rattle kit and put its bin folder on PATH;
 
 def replay(tape):
     """What the programs say of a tape. Fails with Failure, also where they run different lines."""
-    build("line_bytes", "listing")
+    build()
     try:
         lines = lines_of(answer("line_bytes", tape))
     except ValueError as error:
@@ -37,13 +39,13 @@ def replay(tape):
 
 def listing(tape):
     """The listing of a tape as text. Fails with Failure."""
-    build("listing")
+    build()
     return answer("listing", tape).decode("ascii", "replace")
 
 
 def clock_bytes(tape, number):
     """The records of the clocks of a tape's line, as one string of bytes; none for a line that is not run. Fails with Failure."""
-    build("clock_bytes")
+    build()
     return answer("clock_bytes", number.to_bytes(2, "big") + tape)
 
 
@@ -58,19 +60,24 @@ def answer(program, data):
     return done.stdout
 
 
-def build(*programs):
-    """Makes sure that these programs are built from the sources that are there. Fails with Failure."""
-    if not stale(programs):
+def build():
+    """Makes sure that the programs are built from the sources that are there. Fails with Failure."""
+    if not is_stale():
         return
     if shutil.which("rt") is None:
-        if all((BIN / program).exists() for program in programs):
+        if not missing():
             print("the programs are older than their sources, and 'rt' is missing: they are used as they are", file=sys.stderr)
             return
         raise Failure(NO_RT)
     with open(CRATES, encoding="ascii") as lock:
         take(lock)  # of several calls at once, one builds
-        if stale(programs):
-            prove(programs)
+        if is_stale():
+            prove()
+
+
+def missing():
+    """The programs that are not built."""
+    return [program for program in PROGRAMS if not (BIN / program).exists()]
 
 
 def take(lock):
@@ -82,18 +89,17 @@ def take(lock):
         fcntl.flock(lock, fcntl.LOCK_EX)
 
 
-def stale(programs):
-    """Whether one of these programs is missing or older than a source of its crates."""
-    for program in programs:
-        file = BIN / program
-        if not file.exists() or file.stat().st_mtime < max(path.stat().st_mtime for path in sources([program])):
-            return True
-    return False
+def is_stale():
+    """Whether a program is missing or older than a source."""
+    if missing():
+        return True
+    newest = max(path.stat().st_mtime for path in sources())
+    return any((BIN / program).stat().st_mtime < newest for program in PROGRAMS)
 
 
-def sources(programs):
-    """The files that these programs are built from."""
-    return [CRATES] + [path for crate in crates_of(programs) for path in (PROJECT / "crates" / crate / "src").rglob("*.rt")]
+def sources():
+    """The files that the programs are built from."""
+    return [CRATES] + [path for crate in crates_of(PROGRAMS) for path in (PROJECT / "crates" / crate / "src").rglob("*.rt")]
 
 
 def crates_of(programs):
@@ -110,12 +116,14 @@ def crates_of(programs):
     return found
 
 
-def prove(programs):
-    """Proves and builds these programs and says on standard error how far it is. Fails with Failure."""
-    total = len(crates_of(programs))
-    print(f"building the programs: {total} crates are proved first, which takes two minutes or so, once", file=sys.stderr)
+def prove():
+    """Proves and builds the programs and says on standard error how far it is. Fails with Failure."""
+    total = len(crates_of(PROGRAMS))
+    print(f"building the programs: {total} crates are proved first, which may take two minutes", file=sys.stderr)
     begun = time.monotonic()
-    command = ["rt", "check", *programs]
+    command = ["rt", "check", *PROGRAMS]
+    for program in missing():
+        (STAMPS / program).unlink(missing_ok=True)  # rt links a program only when it proves its crate
     with subprocess.Popen(command, cwd=PROJECT, stdout=subprocess.PIPE, stderr=subprocess.STDOUT) as process:
         with ended_with(process), Progress(total, sys.stderr) as progress:
             for row in rows_from(process.stdout, progress.tick):
@@ -123,8 +131,10 @@ def prove(programs):
                 if match:
                     progress.proved(match[1])
     if process.returncode != 0:
-        raise Failure(f"the programs could not be built: run '{' '.join(command)}' to see why")
-    for program in programs:
+        raise Failure(f"the programs could not be built: run '{' '.join(command)}' in the folder {PROJECT} to see why")
+    if missing():
+        raise Failure(f"'{' '.join(command)}' left no {missing()[0]}: remove the folder {PROJECT / 'target'} and call again")
+    for program in PROGRAMS:
         os.utime(BIN / program)
     print(f"built in {time.monotonic() - begun:.0f} seconds", file=sys.stderr)
 

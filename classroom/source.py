@@ -3,12 +3,14 @@
 import os
 from typing import NamedTuple, Optional
 
-from classroom.command import Failure, read_input
+from classroom.command import Failure, read_input, title_of
 from classroom.notation import SourceError, SourceErrors, packed, parsed, source_text
 
 TEXT_BYTES = 9  # no byte of a text is below; every tape has one, its version or the upper byte of a length
 UTF_16 = (b"\xff\xfe", b"\xfe\xff")  # how such a text begins
-MOST_ERRORS = 20  # rows of a wrong source that a message names
+RICH_TEXT = b"{\\rtf"
+NEITHER = "found neither a source nor a tape: a source is plain text, saved as UTF-8, and a tape begins with the byte 01"
+MOST_ERRORS = 100  # rows of a wrong source that a message names
 
 
 class Input(NamedTuple):
@@ -52,12 +54,14 @@ def instead(verb, result):
 def contents(name):
     """The title and the bytes of an input. Fails with Failure where it cannot be read, is empty, or is no text in UTF-8."""
     if name != "-" and os.path.isdir(name):
-        raise Failure(f"{name}: found a folder: expected a source or a tape; name a file in it")
+        raise Failure(f"{title_of(name)}: found a folder: expected a source or a tape; name a file in it")
     title, data = read_input(name)
     if not data:
         raise Failure(f"{title}: found no bytes: expected a source, which has a 'line' for each scanline, or a tape")
     if data.startswith(UTF_16):
         raise Failure(f"{title}: found UTF-16 text: save it as UTF-8")
+    if is_tape(data) and data[0] >= TEXT_BYTES or data.startswith(RICH_TEXT):
+        raise Failure(f"{title}: {NEITHER}")
     return title, data
 
 
@@ -84,7 +88,7 @@ def source_input(name, title, data):
 
 
 def mistakes(title, errors):
-    """A row for each error of a source, up to twenty, and how many more there are."""
+    """A row for each error of a source, up to a hundred, and how many more there are."""
     rows = [f"{title}:{error}" for error in errors[:MOST_ERRORS]]
     more = len(errors) - len(rows)
     if more:

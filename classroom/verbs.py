@@ -20,8 +20,8 @@ from classroom.television import NTSC, PAL, picture_rows, png
 from classroom.terminal import has_colour, look_of
 
 REFUSALS = programs.PROJECT / "docs/REFUSALS.md"
-NO_LINE = "has no 'line': expected one for each scanline"
-ALL_BLACK = "every column is black: the tape writes no colour; write COLUBK, COLUPF, COLUP0 or COLUP1 (lesson 13)"
+NO_LINE = "found no 'line': expected one for each scanline"
+ALL_BLACK = "every column drawn is black: write COLUBK, or the colour of an object that is lit (lesson 13)"
 
 
 def look(arguments):
@@ -33,8 +33,10 @@ def look(arguments):
     style = look_of(replay.lines, standard_of(arguments), os.environ) if coloured else plain
     layout = Layout(arguments.fold) if arguments.fold else layout_of(sys.stdout)
     end = ending_of(replay.last)
+    if arguments.lines and arguments.lines[0] >= len(replay.lines):
+        raise lines_missing(given, *arguments.lines, len(replay.lines), end)
     write_rows([*shown(replay.lines, end, arguments.lines, layout, style), *place_rows(given, end)])
-    return status_of(end)
+    return status_of(given, end)
 
 
 def list(arguments):
@@ -45,7 +47,7 @@ def list(arguments):
     end = ending_of(listing.splitlines()[-1] if listing else "")
     write_output("-", "-", listing.encode())
     tell([] if is_whole(end) else [end.words], place_rows(given, end))
-    return status_of(end)
+    return status_of(given, end)
 
 
 def picture(arguments):
@@ -57,10 +59,10 @@ def picture(arguments):
     end = ending_of(replay.last)
     lines = chosen_lines(given, replay.lines, end, arguments.lines)
     if not is_coloured(lines):
-        hint(f"{given.title}: {ALL_BLACK}", arguments.quiet)
+        hint(f"{given.title}: hint: {ALL_BLACK}", arguments.quiet)
     write_output(arguments.output, arguments.file, png(picture_rows(lines, standard_of(arguments), arguments.scale)))
     tell(end_rows(given, end))
-    return status_of(end)
+    return status_of(given, end)
 
 
 def page(arguments):
@@ -80,7 +82,7 @@ def page(arguments):
     )
     write_output(arguments.output, arguments.file, text_bytes(page_text(shown_page)))
     tell(end_rows(given, end))
-    return status_of(end)
+    return status_of(given, end)
 
 
 def step(arguments):
@@ -102,7 +104,7 @@ def step(arguments):
         raise Failure(f"target/bin/clock_bytes: {error}") from None
     write_rows([f"{given.title}, line {arguments.line}, {name}", *rows])
     tell(end_rows(given, end))
-    return status_of(end)
+    return status_of(given, end)
 
 
 def assemble(arguments):
@@ -110,6 +112,8 @@ def assemble(arguments):
     check_binary(arguments.output, "tape")
     given = source_of(arguments.file)
     give_hints(given, arguments.quiet)
+    if given.lines == []:
+        hint(f"{given.title}: hint: {NO_LINE}", arguments.quiet)
     write_output(arguments.output, arguments.file, given.tape)
     return 0
 
@@ -164,7 +168,6 @@ def give_hints(given, quiet):
     for row, message in hints(given.lines or []):
         hint(f"{given.title}:{row}: hint: {message}", quiet)
 
-
 def writes_of(given):
     """The writes of each line of an input, run or not: row of the source or None, clock, address, value."""
     if given.lines is not None:
@@ -193,9 +196,9 @@ def is_whole(end):
     return end.last.startswith("cx")
 
 
-def status_of(end):
-    """The exit status: 1 for a tape that was not run to its end."""
-    return 0 if is_whole(end) else 1
+def status_of(given, end):
+    """The exit status: 1 for a tape that was not run to its end, and for a source without a line."""
+    return 0 if is_whole(end) and given.lines != [] else 1
 
 
 def end_rows(given, end):
@@ -204,14 +207,26 @@ def end_rows(given, end):
 
 
 def place_rows(given, end):
-    """Where in a source the write stands that is refused, or that it has no line; nothing where there is no such place."""
+    """Where in a source the write stands that is refused, or that it has no line; where a tape is damaged; nothing where there is
+    no such place."""
     if given.lines == []:
-        return [f"{given.title} {NO_LINE}"]
+        return [f"{given.title}: {NO_LINE}"]
     record = record_at_fault(end)
-    if given.lines is None or record is None:
+    if given.lines is None:
+        return damage_rows(given) if end.refused and record is None else []
+    if record is None:
         return []
     row, *write = given.lines[end.refused[1]][record]
     return [f"{given.title}:{row}: {write_text(*write).strip()}"]
+
+
+def damage_rows(given):
+    """Where a tape is damaged; nothing where it can be read whole."""
+    try:
+        source_of_tape(given.tape)
+    except TapeError as error:
+        return [f"{given.title}: {error}"]
+    return []
 
 
 def tell(*rows):

@@ -30,7 +30,7 @@ REFUSALS = (PROJECT / "docs/REFUSALS.md").read_text("utf-8")
 LESSONS = sorted((PROJECT / "lessons").glob("*.txt"))
 VERBS = ("look", "list", "picture", "page", "step", "assemble", "disassemble")
 SHOWING = {"look": [], "list": [], "picture": ["-o", "out"], "page": ["-o", "out"], "step": ["--line", "0"]}
-STATUS = "exit status: 0; 1 after a message, and for a tape that the chip refuses; 2 for a wrong command line"
+STATUS = "exit status: 0; 1 where a file is wrong, no line was run, or the chip refuses the tape; 2 for a wrong command line"
 NO_LATCHES = "cx 00 00 00 00 00 00 00 00"
 CODES = re.compile("\x1b\\[[0-9;]*m")
 
@@ -81,17 +81,24 @@ MEETING_ROWS = ["    1 " + "." * 37 + "PP******MM" + "." * 113, "      overlap 3
 LONG = "line\n 0 COLUBK $84\n 3 GRP0 $FF\n 6 ENAM0 2\n 100 RESM0\nrepeat 44\nline\n 0 COLUPF $1E\nend\n"
 COLOURED = "line\n 0 COLUBK $84\n 1 COLUPF $1E\n 2 PF0 $10\n 9 HMOVE\nline\n"
 
-# A source of which the second write of line 1 is refused, with its number; and tapes that are refused, with the last line.
+# A source of which the second write of line 1 is refused, with its number; and tapes that are refused: how many lines are run, the
+# listing's last line, and where they are damaged.
 WRONG_WRITES = {5: " 228 GRP0 7", 6: " 3 GRP0 7", 7: " 9 $2d 7"}
 REFUSED_TAPES = {
-    b"\x01\x00": (0, "refused 9 line 0 record 0"),
-    b"\x02\x00\x00": (0, "refused 8 line 0 record 0"),
-    b"\x00": (0, "refused 8 line 0 record 0"),
-    b"\x01\x00\x00\x00\x04": (1, "refused 4 line 1 record 0"),
-    b"\x01\x00\x00\x00\x06\x00\x1b\x01": (1, "refused 9 line 1 record 0"),
-    b"\x01\x00\x00\x00\x06\x00\x1b\x01\xe4\x1b\x01": (1, "refused 5 line 1 record 1"),
-    b"\x01\x00\x00\x00\x06\x05\x1b\x01\x05\x1b\x01": (1, "refused 6 line 1 record 1"),
-    b"\x01\x00\x00\x00\x03\x05\x2d\x01": (1, "refused 7 line 1 record 0"),
+    b"\x01\x00": (0, "refused 9 line 0 record 0", "byte 1: the tape ends inside the length of line 0: expected two bytes, found one (refusal 9)"),
+    b"\x02\x00\x00": (0, "refused 8 line 0 record 0", "byte 0: the version byte is $02: expected $01 (refusal 8)"),
+    b"\x00": (0, "refused 8 line 0 record 0", "byte 0: the version byte is $00: expected $01 (refusal 8)"),
+    b"\x01\x00\x00\x00\x04": (
+        *(1, "refused 4 line 1 record 0"),
+        "byte 3: the length of line 1 is 4: expected a multiple of 3, at most 684 (refusal 4)",
+    ),
+    b"\x01\x00\x00\x00\x06\x00\x1b\x01": (
+        *(1, "refused 9 line 1 record 0"),
+        "byte 3: the tape ends inside line 1: expected 6 bytes of writes, found 3 (refusal 9)",
+    ),
+    b"\x01\x00\x00\x00\x06\x00\x1b\x01\xe4\x1b\x01": (1, "refused 5 line 1 record 1", ""),
+    b"\x01\x00\x00\x00\x06\x05\x1b\x01\x05\x1b\x01": (1, "refused 6 line 1 record 1", ""),
+    b"\x01\x00\x00\x00\x03\x05\x2d\x01": (1, "refused 7 line 1 record 0", ""),
 }
 
 LINES_MISTAKE = "expected a line, such as 3, or lines, such as 3-8"
@@ -111,9 +118,10 @@ MISTAKES = [
     *each(["--foo", "--", "-x"], "TEXT", "found 'TEXT': expected a verb, look, "),
     *each(["--lines"], "TEXT 3 look a", "found 'TEXT': expected a verb, look, .*; as in './glintstool look FILE'"),
     *each([""], "TEXT", "found 'TEXT': expected a verb, look, "),
-    *(([verb, *SHOWING[verb]], "the following arguments are required: FILE") for verb in SHOWING),
-    *each(["picture", "page"], "TEXT a", "the following arguments are required: -o"),
-    *each(["a"], "step TEXT", "the following arguments are required: --line"),
+    *(([verb, *SHOWING[verb]], "expected a source or a tape: add its name, such as lessons/05-moving-right.txt") for verb in SHOWING),
+    (["picture", "a"], "expected a file to write: add '-o' and its name, such as -o mine.png"),
+    (["page", "a"], "expected a file to write: add '-o' and its name, such as -o mine.html"),
+    (["step", "a"], "expected a line: add '--line' and its number, such as --line 0"),
     *(([verb, "a", *SHOWING.get(verb, []), "b"], f"glintstool {verb}: found 'b': expected nothing more") for verb in VERBS),
     *(([verb, "a", *SHOWING.get(verb, []), "--foo"], "found '--foo': expected one of the verb's options") for verb in VERBS),
     *each(["--line", "--lin", "-o"], "look TEXT 1 a", "found 'TEXT': expected one of the verb's options"),
@@ -136,7 +144,7 @@ MISTAKES = [
 
 def setUpModule():
     """Fails where the programs are not built from the sources that are there."""
-    if programs.stale(BUILT):
+    if programs.is_stale():
         raise AssertionError(f"not built: build with 'rt check {' '.join(BUILT)}'")
 
 
@@ -226,6 +234,7 @@ class Help(Case):
 
     def test_the_short_option_and_the_verbs_in_the_first_help(self):
         text = self.text("-h")
+        self.assertEqual(text, self.text("help"))
         self.assertEqual(text, self.text("--help"))
         self.assertTrue(text.startswith("usage: glintstool [-h] VERB"))
         for verb in VERBS:
@@ -391,7 +400,13 @@ class Inputs(Case):
         for verb, more in SHOWING.items():
             status, _, errors = self.run_command(verb, name, *more)
             self.assertEqual((status, "Traceback" in errors), (1, False), verb)
-        self.assertIn(b"b?.txt:8: 5 $2D $07", self.run_command("look", name)[1])
+        self.assertIn("b\ufffd.txt:8: 5 $2D $07", self.run_command("look", name)[1].decode())
+
+    def test_an_empty_name(self):
+        self.assert_fails("'': found no such file: name a source or a tape", "look", "")
+        self.file("a.txt", SOURCE)
+        message = "'': cannot be written: No such file or directory: name another file with -o"
+        self.assert_fails(message, "picture", "a.txt", "--quiet", "-o", "")
 
 
 class Outputs(Case):
@@ -513,11 +528,20 @@ class Look(Case):
             self.assertEqual(output.decode(), lesson.with_suffix(".picture").read_text("utf-8"))
 
     def test_a_source_without_lines(self):
+        told = "a.txt: found no 'line': expected one for each scanline"
         for text in ("\n", "; nothing\n"):
-            rows = self.rows("look", self.file("a.txt", text))
-            told = "a.txt has no 'line': expected one for each scanline"
-            self.assertEqual(rows, ["no line was run", NO_LATCHES, "met: none", told])
+            status, output, errors = self.run_command("look", self.file("a.txt", text))
+            self.assertEqual((status, errors), (1, ""))
+            self.assertEqual(output.decode().splitlines(), ["no line was run", NO_LATCHES, "met: none", told])
+            status, _, errors = self.run_command("list", "a.txt")
+            self.assertEqual((status, errors), (1, f"{told}\n"))
+            self.assertEqual(self.run_command("page", "a.txt", "-o", "out")[::2], (1, f"{told}\n"))
+            self.assertEqual(self.run_command("assemble", "a.txt"), (0, b"\1", told.replace(": ", ": hint: ", 1) + "\n"))
         self.assertEqual(self.rows("look", "-", data=b"\1"), ["no line was run", NO_LATCHES, "met: none"])
+
+    def test_lines_that_were_not_run(self):
+        message = "a.tape: lines 4-9 were not run; lines 0-3 were"
+        self.assert_fails(message, "look", "--lines", "4-9", self.file("a.tape", TAPE))
 
     def test_width_of_the_terminal(self):
         for width, fold in ((200, 160), (167, 160), (166, 80), (87, 80), (79, 40)):
@@ -571,16 +595,17 @@ class Colour(Case):
 
 class Refused(Case):
     def test_look_shows_the_lines_that_were_run(self):
-        for tape, (lines, last) in REFUSED_TAPES.items():
+        for tape, (lines, last, place) in REFUSED_TAPES.items():
             status, output, errors = self.run_command("look", "-", data=tape)
             rows = output.decode().splitlines()
             self.assertEqual((status, errors), (1, ""), last)
             self.assertIn(SHOWN[3] if lines else "no line was run", rows)
-            self.assertEqual(rows[-2:], [last, meaning(last.split()[1], REFUSALS)])
+            end = [last, meaning(last.split()[1], REFUSALS), *([f"standard input: {place}"] if place else [])]
+            self.assertEqual(rows[-len(end) :], end)
 
     def test_the_other_verbs(self):
-        for tape, (lines, last) in list(REFUSED_TAPES.items())[1:6:2]:
-            told = f"{last}\n{meaning(last.split()[1], REFUSALS)}\n"
+        for tape, (lines, last, place) in list(REFUSED_TAPES.items())[1:6:2]:
+            told = f"{last}\n{meaning(last.split()[1], REFUSALS)}\n" + (f"a: {place}\n" if place else "")
             name = self.file("a", tape)
             status, output, errors = self.run_command("list", name)
             self.assertEqual((status, output.decode().splitlines()[-1], errors), (1, last, told.partition("\n")[2]))
@@ -617,7 +642,9 @@ class Refused(Case):
     def test_longest_and_too_long(self):
         longest = bytes([1] + [0] * 65535)
         status, output, _ = self.run_command("look", "--lines", "32767", "-", data=longest)
-        self.assertEqual((status, output.decode().splitlines()[-2]), (1, "refused 9 line 32767 record 0"))
+        self.assertEqual((status, output), (1, b""))
+        status, output, _ = self.run_command("look", "--lines", "32766", "-", data=longest)
+        self.assertEqual((status, output.decode().splitlines()[-3]), (1, "refused 9 line 32767 record 0"))
         words = ending("tape too long", REFUSALS).words
         too_long = longest + b"\0"
         for verb, more in SHOWING.items():
@@ -652,7 +679,7 @@ class Hints(Case):
         for chosen, black in (([], False), (["--lines", "0"], True)):
             name = self.file("a.txt", "line\nline\n 0 COLUBK $84\n")
             errors = self.run_command("picture", name, "-o", "out", *chosen)[2]
-            self.assertEqual("every column is black" in errors, black)
+            self.assertEqual("a.txt: hint: every column drawn is black: write COLUBK, " in errors, black)
         self.assertEqual(self.run_command("picture", "-", "-o", "out", "--quiet", data=TAPE), (0, b"", ""))
 
 

@@ -164,14 +164,14 @@ class Folds(unittest.TestCase):
 class Terminals(unittest.TestCase):
     def test_the_layout_for_each_width(self):
         widths = {500: WHOLE, 167: WHOLE, 166: Layout(80), 87: Layout(80), 86: ABOVE, 80: ABOVE}
-        widths.update(dict.fromkeys((79, 47, 46, 20, 1), Layout(40)))
+        widths.update({79: Layout(40), 47: Layout(40), 46: Layout(40), 45: Layout(39), 20: Layout(14), 16: Layout(10), 1: Layout(10)})
         for width, layout in widths.items():
             self.assertEqual(fitting_layout(width), layout, width)
         self.assertEqual(WHOLE, Layout(160, above=False))
 
     def test_every_row_of_the_picture_fits(self):
         line = line_of({**{column: 5 for column in range(0, 160, 3)}, 1: 64})
-        for width in (500, 167, 166, 87, 86, 80, 79, 47):
+        for width in (500, 167, 166, 87, 86, 80, 79, 47, 46, 45, 40):
             rows = shown([line] * 3, END, layout=fitting_layout(width))
             self.assertLessEqual(max(len(row) for row in rows), width)
 
@@ -247,11 +247,13 @@ class Legend(unittest.TestCase):
     def test_each_mark_alone(self):
         names = [*((1 << bit, letter, name) for bit, (name, letter) in enumerate(OBJECTS))]
         for byte, letter, name in [*names, (3, "*", "overlap"), (64, "-", "blanked"), (0, ".", "nothing")]:
-            self.assertEqual(legend([bytes([byte] * 160)]), f"legend: {letter} = {name}")
+            self.assertEqual(legend([bytes([byte] * 160)], 160), [f"legend: {letter} = {name}"])
 
     def test_all(self):
         expected = "legend: P = P0, Q = P1, M = M0, N = M1, B = BL, F = PF, * = overlap, - = blanked, . = nothing"
-        self.assertEqual(legend([bytes(range(64)), bytes([64])]), expected)
+        self.assertEqual(legend([bytes(range(64)), bytes([64])], 160), [expected])
+        broken = ["legend: P = P0, Q = P1, M = M0, N = M1", "legend: B = BL, F = PF, * = overlap", "legend: - = blanked, . = nothing"]
+        self.assertEqual(legend([bytes(range(64)), bytes([64])], 40), broken)
 
     def test_of_the_chosen_lines_alone(self):
         self.assertIn("legend: Q = P1", shown([filled(1), filled(2)], END, (1, 1)))

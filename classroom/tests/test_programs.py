@@ -27,17 +27,24 @@ SOURCE = "line\n 0 ENAM0 2\n 100 RESM0\nline\n"
 LISTING = "line P0 P1 M0 M1 BL PF\n0 - - - - - -\n1 - - 36 - - -\ncx 00 00 00 00 00 00 00 00\n"
 BUILT = ("clock_bytes", "line_bytes", "listing")
 OLD = 1_000_000_000  # a time long ago
-FIRST = re.compile(r"building the programs: (\d+) crates are proved first, which takes .* once")
+FIRST = re.compile(r"building the programs: (\d+) crates are proved first, which may take two minutes")
 LAST = re.compile(r"built in \d+ seconds")
 NO_RT = "'rt' is missing: install the Rattle kit and put its bin folder on PATH; it proves and builds the programs"
 AS_THEY_ARE = "the programs are older than their sources, and 'rt' is missing: they are used as they are"
 NO_END = "target/bin/listing: found {} at the listing's end: expected latches or a refusal"
 WAITING = "the programs are being built by another call: waiting for it"
 
-# The crates of ./glintstool list, in the order in which they are proved.
-LISTED = ("laws", "counter", "tia", "tape", "replay", "listing_text", "listing")
-PROVED = "".join(f"echo 'rt: {crate} proved (0 s)'\n" for crate in LISTED)
-INSTALLED = f"cp {PROJECT}/target/bin/* target/bin\necho 'rt: ok, 7 crates proved'\n"
+CHECK = "check line_bytes listing clock_bytes"
+
+# The programs' crates, in the order in which they are proved.
+CRATES = ("laws", "counter", "tia", "tape", "replay", "line_bytes", "listing_text", "listing", "clock_bytes")
+PROVED = "".join(f"echo 'rt: {crate} proved (0 s)'\n" for crate in CRATES)
+INSTALLED = f"cp {PROJECT}/target/bin/* target/bin\necho 'rt: ok, 9 crates proved'\n"
+
+
+def interruptible():
+    """Lets SIGINT end this process, as in a terminal, also where its parent ignores it."""
+    signal.signal(signal.SIGINT, signal.SIG_DFL)
 
 
 def stands_on():
@@ -144,14 +151,16 @@ class Crates(unittest.TestCase):
 
     def test_the_kit_is_not_among_them(self):
         self.assertFalse({"io", "libc"} & set(programs.crates_of(BUILT)))
-        self.assertEqual(sorted(LISTED), sorted(programs.crates_of(["listing"])))
+        self.assertEqual(sorted(CRATES), sorted(programs.crates_of(BUILT)))
+        self.assertEqual(sorted(BUILT), sorted(programs.PROGRAMS))
 
     def test_sources_are_files_of_these_crates(self):
-        found = programs.sources(["line_bytes"])
+        found = programs.sources()
         self.assertIn(PROJECT / "crates.txt", found)
         self.assertIn(PROJECT / "crates/tia/src/lib.rt", found)
-        self.assertIn(PROJECT / "crates/line_bytes/src/main.rt", found)
-        self.assertFalse([path for path in found if "listing" in path.parts or "specs" in path.parts])
+        for program in BUILT:
+            self.assertIn(PROJECT / "crates" / program / "src/main.rt", found)
+        self.assertFalse([path for path in found if {"repeat_line", "chip_report", "specs"} & set(path.parts)])
 
 
 class Answers(unittest.TestCase):
@@ -177,25 +186,33 @@ class Stale(Project):
             self.addCleanup(patched.stop)
 
     def test_missing(self):
-        self.assertTrue(programs.stale(["listing"]))
-        self.built()
-        self.assertFalse(programs.stale(BUILT))
-        (self.folder / "target/bin/listing").unlink()
-        self.assertTrue(programs.stale(["line_bytes", "listing"]))
-        self.assertFalse(programs.stale(["line_bytes"]))
+        self.assertTrue(programs.is_stale())
+        self.assertEqual(sorted(programs.missing()), sorted(BUILT))
+        for program in BUILT:
+            self.built()
+            self.assertFalse(programs.is_stale())
+            (self.folder / "target/bin" / program).unlink()
+            self.assertTrue(programs.is_stale())
+            self.assertEqual(programs.missing(), [program])
 
     def test_older_than_a_source_of_its_crates(self):
         self.built(OLD + 10)
         for crate in stands_on():
             os.utime(self.source(crate), (OLD + 20, OLD + 20))
-            self.assertEqual(programs.stale(["line_bytes"]), crate in stands_on()["line_bytes"] | {"line_bytes"}, crate)
+            self.assertEqual(programs.is_stale(), crate in CRATES, crate)
             os.utime(self.source(crate), (OLD, OLD))
-        self.assertFalse(programs.stale(["line_bytes"]))
+        self.assertFalse(programs.is_stale())
+
+    def test_one_of_them_is_older(self):
+        for program in BUILT:
+            self.built(OLD + 10)
+            os.utime(self.folder / "target/bin" / program, (OLD - 10, OLD - 10))
+            self.assertTrue(programs.is_stale())
 
     def test_older_than_the_crates_file(self):
         self.built(OLD + 10)
         os.utime(self.folder / "crates.txt", (OLD + 20, OLD + 20))
-        self.assertTrue(programs.stale(["line_bytes"]))
+        self.assertTrue(programs.is_stale())
 
 
 class Building(Project):
@@ -209,33 +226,34 @@ class Building(Project):
         self.rt("echo rt: a note\n" + PROVED + INSTALLED)
         status, output, errors = self.run_command("list", "mine.txt")
         self.assertEqual((status, output), (0, LISTING))
-        self.assertEqual(FIRST.fullmatch(errors[0])[1], "7")
-        told = [f"  {number} of 7 crates proved: {crate}" for number, crate in enumerate(LISTED, start=1)]
+        self.assertEqual(FIRST.fullmatch(errors[0])[1], "9")
+        told = [f"  {number} of 9 crates proved: {crate}" for number, crate in enumerate(CRATES, start=1)]
         self.assertEqual(errors[1:-1], told)
         self.assertRegex(errors[-1], LAST)
-        self.assertEqual(self.calls(), ["check listing"])
+        self.assertEqual(self.calls(), [CHECK])
 
     def test_crates_that_are_unchanged_count(self):
         self.rt("echo 'rt: laws proved (unchanged since it was last proved)'\n" + INSTALLED)
-        self.assertEqual(self.run_command("list", "mine.txt")[2][1], "  1 of 7 crates proved: laws")
+        self.assertEqual(self.run_command("list", "mine.txt")[2][1], "  1 of 9 crates proved: laws")
 
     def test_each_crate_is_told_when_it_is_proved(self):
         go_on = self.fifo("go_on")
         self.rt(f"echo 'rt: laws proved (0 s)'\nread line < {go_on}\n" + INSTALLED)
         process = self.begin("list", "mine.txt")
         self.assertRegex(self.row_from(process.stderr), FIRST)
-        self.assertEqual(self.row_from(process.stderr), "  1 of 7 crates proved: laws")
+        self.assertEqual(self.row_from(process.stderr), "  1 of 9 crates proved: laws")
         go_on.write_text("\n")
         self.assertRegex(self.row_from(process.stderr), LAST)
         self.assertEqual(process.communicate(timeout=20)[0].decode(), LISTING)
 
-    def test_the_programs_that_a_verb_needs(self):
+    def test_a_verb_that_needs_programs_builds_all_once(self):
         self.rt(INSTALLED)
         for words, expected in (
-            (["list", "mine.txt"], ["check listing"]),
-            (["look", "mine.txt"], ["check line_bytes listing"]),
-            (["picture", "mine.txt", "-o", "out.png"], ["check line_bytes listing"]),
-            (["page", "mine.txt", "-o", "out.html"], ["check line_bytes listing"]),
+            (["list", "mine.txt"], [CHECK]),
+            (["look", "mine.txt"], [CHECK]),
+            (["step", "mine.txt", "--line", "0"], [CHECK]),
+            (["picture", "mine.txt", "-o", "out.png"], [CHECK]),
+            (["page", "mine.txt", "-o", "out.html"], [CHECK]),
             (["assemble", "mine.txt", "-o", "mine.tape"], []),
             (["disassemble", "mine.tape"], []),
         ):
@@ -243,9 +261,24 @@ class Building(Project):
                 path.unlink()
             self.assertEqual(self.run_command(*words)[0], 0, words)
             self.assertEqual(self.calls(), expected, words)
-        (self.folder / "target/bin/clock_bytes").unlink(missing_ok=True)
-        self.assertEqual(self.run_command("step", "mine.txt", "--line", "0")[0], 0)
-        self.assertIn("check clock_bytes", self.calls())
+
+    def test_a_missing_program_is_linked_again(self):
+        stamps = self.folder / "target/stamp"
+        stamps.mkdir()
+        self.built()
+        (self.folder / "target/bin/clock_bytes").unlink()
+        for name in (*BUILT, "tia"):
+            (stamps / name).write_text("")
+        self.rt(f"test -e target/stamp/clock_bytes && exit\n{INSTALLED}")
+        self.assertEqual(self.run_command("list", "mine.txt")[:2], (0, LISTING))
+        self.assertEqual(sorted(path.name for path in stamps.iterdir()), ["line_bytes", "listing", "tia"])
+
+    def test_a_build_that_leaves_no_program(self):
+        self.rt(PROVED)
+        status, output, errors = self.run_command("list", "mine.txt")
+        self.assertEqual((status, output), (1, ""))
+        message = f"'rt {CHECK}' left no line_bytes: remove the folder {self.folder}/target and call again"
+        self.assertEqual(errors[-1], message)
 
     def test_stale_after_a_source_is_newer_and_fresh_after_the_build(self):
         self.built(OLD + 10)
@@ -258,10 +291,11 @@ class Building(Project):
 
     def test_rt_that_fails(self):
         self.rt(PROVED + "echo 'rt: FAILED: listing'\nexit 1\n")
-        for words, needed in ((["list"], "listing"), (["picture", "-o", "out.png"], "line_bytes listing")):
+        for words in (["list"], ["picture", "-o", "out.png"]):
             status, output, errors = self.run_command(*words, "mine.txt")
             self.assertEqual((status, output), (1, ""))
-            self.assertEqual(errors[-1], f"the programs could not be built: run 'rt check {needed}' to see why")
+            message = f"the programs could not be built: run 'rt {CHECK}' in the folder {self.folder} to see why"
+            self.assertEqual(errors[-1], message)
         self.assertFalse((self.folder / "out.png").exists())
 
     def test_rt_is_missing(self):
@@ -295,7 +329,7 @@ class Building(Project):
             output, errors = process.communicate(timeout=20)
             self.assertEqual((process.returncode, output.decode()), (0, LISTING))
         self.assertEqual(errors, b"")
-        self.assertEqual(self.calls(), ["check listing"])
+        self.assertEqual(self.calls(), [CHECK])
 
 
 class Bar(Project):
@@ -317,13 +351,13 @@ class Bar(Project):
         self.assertRegex(last, LAST)
         self.assertEqual(rest, "")
         states = [state.replace("\x1b[K", "") for state in drawn.split("\r")[1:]]
-        self.assertEqual(states[0], f"  [{'.' * 24}] 0 of 7 crates proved, 0 s")
-        self.assertRegex(states[-1], rf"\A  \[{'#' * 24}\] 7 of 7 crates proved, last listing, \d s\Z")
+        self.assertEqual(states[0], f"  [{'.' * 24}] 0 of 9 crates proved, 0 s")
+        self.assertRegex(states[-1], rf"\A  \[{'#' * 24}\] 9 of 9 crates proved, last clock_bytes, \d s\Z")
         for state in states:
-            self.assertRegex(state, r"\A  \[#*\.*\] \d of 7 crates proved(, last \w+)?, \d s\Z")
+            self.assertRegex(state, r"\A  \[#*\.*\] \d of 9 crates proved(, last \w+)?, \d s\Z")
         filled = [state.count("#") for state in states]
         self.assertEqual(sorted(filled), filled)
-        self.assertEqual(sorted(set(filled)), [24 * number // 7 for number in range(8)])
+        self.assertEqual(sorted(set(filled)), [24 * number // 9 for number in range(10)])
         self.assertEqual({state.index("]") for state in states}, {27})
         self.assertLess(max(map(len, states)) + len("00"), 80)
 
@@ -336,11 +370,12 @@ class BrokenOff(Project):
         alive = self.fifo("alive")
         self.rt(f"echo 'rt: laws proved (0 s)'\nexec 3> {alive}\n{script}\n")
         (self.folder / "out.png").write_bytes(b"before")
-        process = self.begin("picture", "mine.txt", "-o", "out.png", start_new_session=True)
+        options = {"start_new_session": True, "preexec_fn": interruptible}
+        process = self.begin("picture", "mine.txt", "-o", "out.png", **options)
         with open(alive, "rb", buffering=0) as pipe:
             self.assertEqual(self.row_from(pipe), "begun")
             self.assertRegex(self.row_from(process.stderr), FIRST)
-            self.assertEqual(self.row_from(process.stderr), "  1 of 8 crates proved: laws")
+            self.assertEqual(self.row_from(process.stderr), "  1 of 9 crates proved: laws")
             interrupt(process.pid)
             output, errors = process.communicate(timeout=20)
             self.assertTrue(select.select([pipe], [], [], 20)[0], "rt still runs")
@@ -364,6 +399,10 @@ class BrokenOff(Project):
 
 class Failing(Project):
     one_line = "head -c 320 /dev/zero"
+
+    def setUp(self):
+        super().setUp()
+        self.built()
 
     def assert_fails(self, message, *words):
         """Asserts that the command writes nothing and ends with status 1 and this message."""
@@ -406,7 +445,6 @@ class Failing(Project):
         self.assert_fails("target/bin/listing: Exec format error", "list", "mine.txt")
 
     def test_refusals_are_missing(self):
-        self.built()
         (self.folder / "docs/REFUSALS.md").unlink()
         self.assert_fails("docs/REFUSALS.md: No such file or directory", "look", "mine.txt")
 

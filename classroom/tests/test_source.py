@@ -80,7 +80,7 @@ class Inputs(unittest.TestCase):
             self.assertEqual(self.failure(tape_of, path), f"{path}: {FROM_SOURCE}")
 
     def test_damaged_tapes_are_tapes(self):
-        for digits in ["01", "00", "02 0000", "FF 0003 001D02", "01 0003 00", "41 0203 414141"]:
+        for digits in ["01", "00", "02 0000", "08 0003 001D02", "01 0003 00"]:
             path = self.path(bytes.fromhex(digits))
             self.assertEqual(input_of(path), (path, path, bytes.fromhex(digits), None, None))
             self.assertEqual(self.failure(source_of, path), f"{path}: {FROM_TAPE}")
@@ -135,14 +135,22 @@ class Inputs(unittest.TestCase):
         for reader in (input_of, source_of):
             self.assertEqual(self.failure(reader, path).split("\n"), rows)
 
-    def test_at_most_twenty_mistakes(self):
-        for count, last in [(20, "found '30'"), (21, "1 more row is wrong"), (50, "30 more rows are wrong")]:
+    def test_at_most_a_hundred_mistakes(self):
+        for count, last in [(100, "found '30'"), (101, "1 more row is wrong"), (130, "30 more rows are wrong")]:
             path = self.path(b"line 30\n" * count)
             rows = self.failure(input_of, path).split("\n")
-            self.assertEqual(len(rows), min(count, 21))
-            self.assertTrue(rows[19].startswith(f"{path}:20: found '30' after 'line'"))
+            self.assertEqual(len(rows), min(count, 101))
+            self.assertTrue(rows[99].startswith(f"{path}:100: found '30' after 'line'"))
             self.assertIn(last, rows[-1])
         self.assertEqual(rows[-1], f"{path}: 30 more rows are wrong")
+
+    def test_neither_a_source_nor_a_tape(self):
+        message = "found neither a source nor a tape: a source is plain text, saved as UTF-8, and a tape begins with the byte 01"
+        png = (PROJECT / "lessons/13-colour.png").read_bytes()
+        for data in (png, b"PK\x03\x04", b"l\0i\0n\0e\0", b"\x7fELF\x02", b"{\\rtf1 line}", b"\x41\x02\x03"):
+            path = self.path(data)
+            for reader in READERS:
+                self.assertEqual(self.failure(reader, path), f"{path}: {message}")
 
     def test_standard_input(self):
         title = "standard input"
