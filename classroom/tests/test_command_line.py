@@ -22,6 +22,7 @@ from classroom.lines import ending, lines_of, meaning
 from classroom.main import EXAMPLES, main
 from classroom.notation import assemble
 from classroom.television import NTSC, PAL, colour_of, picture_rows, pixels_of
+from classroom.tests.cases import NO_LATCHES, RULER, SHOWN, TENS, read_terminal
 
 PROJECT = Path(__file__).resolve().parent.parent.parent
 COMMAND = [sys.executable, PROJECT / "glintstool"]
@@ -31,30 +32,12 @@ LESSONS = sorted((PROJECT / "lessons").glob("*.txt"))
 VERBS = ("look", "list", "picture", "page", "step", "assemble", "disassemble")
 SHOWING = {"look": [], "list": [], "picture": ["-o", "out"], "page": ["-o", "out"], "step": ["--line", "0"]}
 STATUS = "exit status: 0; 1 where a file is wrong, no line was run, or the chip refuses the tape; 2 for a wrong command line"
-NO_LATCHES = "cx 00 00 00 00 00 00 00 00"
 CODES = re.compile("\x1b\\[[0-9;]*m")
 
-# The case that the chip's description prints, as a source and as a tape, its listing and its picture.
+# The case that the chip's description prints, as a source and as a tape, its listing, and its picture on 80 columns.
 SOURCE = "line\n  0 ENAM0 $02\n 30 RESM0\nline\nline\n  0 HMM0 $70\n  9 HMOVE\nline\n"
 TAPE = bytes.fromhex("01 0006 001D02 1E1200 0000 0006 002270 092A00 0000")
 LISTING = f"line P0 P1 M0 M1 BL PF\n0 - - - - - -\n1 - - 3 - - -\n2 - - 156 - - -\n3 - - 156 - - -\n{NO_LATCHES}\n"
-TENS = "".join(str(ten) * 10 for ten in range(10))
-RULER = [
-    " " * 106 + "1" * 60,
-    " " * 16 + TENS[10:] + TENS[:60],
-    " " * 6 + "0123456789" * 16,
-]
-SHOWN = [
-    *RULER,
-    "    0 " + "." * 160,
-    "    1 ...M" + "." * 156,
-    "    2 --------" + "." * 148 + "M...",
-    "    3 " + "." * 156 + "M...",
-    "",
-    "legend: M = M0, - = blanked, . = nothing",
-    NO_LATCHES,
-    "met: none",
-]
 ABOVE_80 = [
     " " * 10 + TENS[10:80],
     "0123456789" * 8,
@@ -207,14 +190,8 @@ class Case(unittest.TestCase):
             os.close(theirs)
             process.stdin.write(data)
             process.stdin.close()
-            output = b""
-            try:
-                while part := os.read(ours, 65536):
-                    output += part
-            except OSError:
-                pass  # the end of a terminal that nobody holds any more
-        os.close(ours)
-        return process.returncode, output.decode().replace("\r\n", "\n")
+            output = read_terminal(ours)
+        return process.returncode, output.replace("\r\n", "\n")
 
 
 class Help(Case):

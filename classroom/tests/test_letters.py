@@ -10,20 +10,14 @@ sys.dont_write_bytecode = True
 
 from classroom.letters import WHOLE, Layout, fitting_layout, legend, mark, not_run, overlaps, ruler, shown
 from classroom.lines import Ending, Line
+from classroom.tests.cases import NO_LATCHES, RULER, SHOWN, TENS
 
-NO_LATCHES = "cx 00 00 00 00 00 00 00 00"
 END = Ending(NO_LATCHES, "met: none", ())
 CODES = re.compile("\x1b\\[[0-9;]*m")
 
 # Each object's name and letter, by its bit in an object byte.
 OBJECTS = (("P0", "P"), ("P1", "Q"), ("M0", "M"), ("M1", "N"), ("BL", "B"), ("PF", "F"))
 
-TENS = "".join(str(ten) * 10 for ten in range(10))
-RULER = [
-    " " * 106 + "1" * 60,
-    " " * 16 + TENS[10:] + TENS[:60],
-    " " * 6 + "0123456789" * 16,
-]
 ABOVE = Layout(80, above=True)
 
 
@@ -40,19 +34,8 @@ def filled(byte):
     return Line(bytes([byte] * 160), bytes(160))
 
 
-# The lines of the case that the chip's description prints, and its picture.
+# The lines of the case that the chip's description prints.
 PRINTED = [line_of({}), line_of({3: 4}), line_of({**dict.fromkeys(range(8), 64), 156: 4}), line_of({156: 4})]
-SHOWN = [
-    *RULER,
-    "    0 " + "." * 160,
-    "    1 ...M" + "." * 156,
-    "    2 --------" + "." * 148 + "M...",
-    "    3 " + "." * 156 + "M...",
-    "",
-    "legend: M = M0, - = blanked, . = nothing",
-    NO_LATCHES,
-    "met: none",
-]
 
 
 class Letters(unittest.TestCase):

@@ -9,9 +9,9 @@ sys.dont_write_bytecode = True
 
 from classroom.lines import BLANK, CLOCKS, COLUMNS, LINE_BYTES, OBJECTS, Line
 from classroom.lines import ending, is_coloured, lines_of, lit, meaning, met, record_at_fault, span
+from classroom.tests.cases import NO_LATCHES
 
 REFUSALS = (Path(__file__).resolve().parent.parent.parent / "docs/REFUSALS.md").read_text("utf-8")
-NO_LATCHES = "cx 00 00 00 00 00 00 00 00"
 OVER_227 = "A record's clock is over 227. The clocks of a line are 0 to 227."
 
 # The latch read-out of the chip's description: bits 7 and 6 of each byte.

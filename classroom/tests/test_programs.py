@@ -21,6 +21,7 @@ from classroom import programs
 from classroom.command import Failure
 from classroom.lines import lines_of
 from classroom.notation import assemble
+from classroom.tests.cases import read_terminal
 
 PROJECT = Path(__file__).resolve().parent.parent.parent
 SOURCE = "line\n 0 ENAM0 2\n 100 RESM0\nline\n"
@@ -338,15 +339,9 @@ class Bar(Project):
         ours, theirs = pty.openpty()
         done = subprocess.run(**self.options(["list", "mine.txt"]), stdout=subprocess.PIPE, stderr=theirs, timeout=60)
         os.close(theirs)
-        text = b""
-        try:
-            while part := os.read(ours, 65536):
-                text += part
-        except OSError:
-            pass  # the end of a terminal that nobody holds any more
-        os.close(ours)
+        text = read_terminal(ours)
         self.assertEqual((done.returncode, done.stdout.decode()), (0, LISTING))
-        first, drawn, last, rest = text.decode().split("\r\n")
+        first, drawn, last, rest = text.split("\r\n")
         self.assertRegex(first, FIRST)
         self.assertRegex(last, LAST)
         self.assertEqual(rest, "")
