@@ -630,6 +630,12 @@ class Refused(Case):
             self.assertTrue((output.decode() + errors).endswith(f"tape too long\n{words}\n"), verb)
         self.assert_fails(f"standard input: tape too long: {words}", "disassemble", data=too_long)
 
+    def test_a_write_is_refused_before_the_tape_is_damaged(self):
+        tape = b"\x01\x00\x03\x05\x2d\x01\x00"
+        self.assertEqual(self.run_command("disassemble", "-", data=tape)[0], 1)
+        _, output, _ = self.run_command("look", "-", data=tape)
+        self.assertEqual(output.decode().splitlines()[-2:], ["refused 7 line 0 record 0", meaning("7", REFUSALS)])
+
     def test_disassemble_names_the_place(self):
         message = "standard input: byte 0: the version byte is $02: expected $01 (refusal 8)"
         self.assert_fails(message, "disassemble", data=b"\2\0\0")

@@ -87,6 +87,7 @@ class Text(unittest.TestCase):
             "lower case": SOURCE.lower(),
             "mixed case": SOURCE.title(),
             "tabs": SOURCE.replace(" ", "\t"),
+            "no-break spaces": SOURCE.replace(" ", "\u00a0"),
             "blanks at the ends": SOURCE.replace("\n", " \t\n"),
             "no blanks before": "\n".join(row.strip() for row in SOURCE.split("\n")),
             "CRLF": SOURCE.replace("\n", "\r\n"),

@@ -2,6 +2,7 @@
 Run: python3 -m unittest classroom.tests.test_page. tools/try_page tries the page in a browser."""
 
 import base64
+import json
 import random
 import re
 import subprocess
@@ -361,6 +362,13 @@ class Bytes(unittest.TestCase):
                 inks = [in_inks(line) for line in all_given.lines]
                 self.assertEqual(images["tv"], [television, *([row] for row in television)])
                 self.assertEqual(images["ob"], [inks, *([row] for row in inks)])
+
+    def test_pointing_has_the_colours_of_the_palette(self):
+        for standard in (NTSC, PAL):
+            data = re.search('<script type="application/json" id="given">(.*?)</script>', page(given(SOURCE, standard)))
+            pointing = json.loads(data[1])
+            self.assertEqual(pointing["palette"], [row[standard.place] for row in PALETTES])
+            self.assertEqual((pointing["black"], pointing["unshown"], pointing["blank"]), ("000000", 0xC0, 68))
 
     def test_a_blanked_column_is_black_and_background_0_is_not_in_pal(self):
         top = read(page(given(NO_COLOURS, PAL)))

@@ -1,6 +1,6 @@
 -- The records of a line that is run are those of the chip's own clocks, and their answer bytes are the line's object bytes.
 use mathlib.Core.Path.{_≡_, _∙_, refl, sym, ap}
-use mathlib.Core.Bool.{Bool, true, false, cond, not}
+use mathlib.Core.Bool.{Bool, true, false, cond}
 use mathlib.Core.List.{List, [], _∷_, _++_}
 use Prim.Native.Nat.{ℕ, zero, suc, _+_, _<_}
 use native.Mathlib.Omega.{arith}
@@ -8,21 +8,20 @@ use lib.Dec.{eqb}
 use lib.ListN.{length, getD}
 use Rattle.tia.specs.declared.answers.ClockAnswer.{ClockAnswer}
 use Rattle.tia.specs.declared.state.State.{State}
-use Rattle.tia.specs.declared.write.Write.{Write}
 use Rattle.tia.specs.declared.write.Write.the-variants.{Register}
 use Rattle.tia.specs.State.{startState, badState}
-use Rattle.tia.specs.Write.{known, unknown}
+use Rattle.tia.specs.Write.{unknown}
 use Rattle.tia.specs.Clock.{clockOf}
 use Rattle.tia.specs.WriteList.{TimedWrite, recordsOf, writeAt}
 use Rattle.tia.specs.Line.{lineOf, lineRooms, picture}
-use Rattle.tia.specs.Answers.{givenClock, clockAnswer, lineFault, lineAnswer}
+use Rattle.tia.specs.Answers.{givenClock, clockAnswer, lineAnswer}
 use Rattle.tia.specs.Run.{allBytes}
 use Rattle.tia.proofs.AnswerLaws.{clock-given, no-fault}
-use Rattle.tia.proofs.LineLaws.{stateAt, writesOf, byteAt, line-byte, line-state}
+use Rattle.tia.proofs.LineLaws.{stateAt, writesOf, line-byte, line-state}
 use Rattle.tia.proofs.RisingLaws.{Rising, sound-by}
 use Rattle.tia.proofs.RunLaws.{good-at, slice-bytes}
 use Rattle.replay.specs.Replay.{PlayedLine, stateAfterLines, replayOf}
-use Rattle.replay.proofs.ChainLaws.{Follows, Chained, replay-chained, chain-second}
+use Rattle.replay.proofs.ChainLaws.{replay-chained, chain-second}
 use Rattle.clock_bytes.specs.ClockBytes.{sharedBytes, recordOf, lineRecords, tapeRecords}
 use Rattle.clock_bytes.proofs.ShowLaws.{stateBefore, line-record, records-after}
 

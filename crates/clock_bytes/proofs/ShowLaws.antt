@@ -22,10 +22,11 @@ use Rattle.replay.specs.declared.play.Verdict.the-variants.{Played}
 use Rattle.replay.specs.declared.play.PlayAnswer.{PlayAnswer}
 use Rattle.replay.specs.Play.{playAnswer, PlayPromise}
 use Rattle.replay.proofs.PlayLaws.{play-answered}
-use Rattle.replay.specs.Replay.{PlayedLine, stateAfterLines, lineFrom, replayFrom, replayOf}
+use Rattle.replay.specs.Replay.{PlayedLine, stateAfterLines, lineFrom, replayOf}
 use Rattle.replay.proofs.ReplayLaws.{enough}
 use Rattle.replay.proofs.FollowLaws.{Followed, followed-none, followed-here, followed-more}
-use Rattle.clock_bytes.specs.ClockBytes.{objectBytes, sharedBytes, recordOf, recordsFrom, lineRecords, firstRecords, tapeRecords, numberOf, inputRecords, recordAt}
+use Rattle.clock_bytes.specs.ClockBytes.{objectBytes, sharedBytes, recordOf, recordsFrom, lineRecords, firstRecords}
+use Rattle.clock_bytes.specs.ClockBytes.{tapeRecords, numberOf, inputRecords, recordAt}
 
 -- Fewer than three bytes hold no record.
 records-none : (ws : List ℕ) → length ws ≤ 2 → recordsOf ws ≡ []

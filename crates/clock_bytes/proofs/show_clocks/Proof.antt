@@ -82,7 +82,21 @@ loop-again c =
       search needs,
       search needs,
       search needs,
-      passed-more _ _ _ _ _ _ (played .play-line .result) _ (turn .loop-test .taken) (inv .1) (inv .2) (inv .3) (played .play-line .ensures) (told .verdict .given .1),
+      passed-more
+          _
+          _
+          _
+          _
+          _
+          _
+          (played .play-line .result)
+          _
+          (turn .loop-test .taken)
+          (inv .1)
+          (inv .2)
+          (inv .3)
+          (played .play-line .ensures)
+          (told .verdict .given .1),
     )
 
 returns-3 : tie.Need-returns-3 Inv-loop μ-loop

@@ -1,5 +1,4 @@
 -- `write_at` meets its contract. The loop's invariant: what is left of the list has the write of the whole.
-use borrow.Author.Needs.{needs}
 use Prim.Native.Nat.{_-_}
 use mathlib.Core.Path.{refl}
 use native.Mathlib.Omega.{arith}
