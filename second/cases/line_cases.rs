@@ -6,6 +6,7 @@ use crate::cases::build_lists::{address_of, playfield_register};
 use crate::cases::case::{Call, LineCase};
 use crate::cases::chip_cases::Group;
 use crate::cases::colour_writes::{set_colours, set_priority, DECIDING};
+use crate::cases::drawings::{ages_that_show, set_age};
 use crate::cases::random::Random;
 use crate::cases::random_lists::{
     free_list, hmove_at, list_of_length, put, short_list, unknown_addresses, write_at,
@@ -15,13 +16,13 @@ use crate::cases::spoil::{
     least_index, resize, spoil, spoil_record, spoil_two_records, BAD_BUFFERS, BAD_LENGTHS,
     LINE_FAULTS,
 };
-use crate::model::lit::lit_ages;
+use crate::cases::stretched_cases;
 use crate::model::registers::KNOWN;
 use crate::model::state::{State, NO_MOTION};
 use crate::model::write_list::ListedWrite;
 
 /// The groups in their order.
-pub const GROUPS: [Group<LineCase>; 8] = [
+pub const GROUPS: [Group<LineCase>; 10] = [
     bench_checks,
     lists,
     states,
@@ -30,6 +31,8 @@ pub const GROUPS: [Group<LineCase>; 8] = [
     call_faults,
     record_faults,
     two_faults,
+    stretched_cases::rewritten_in_lines,
+    stretched_cases::over_the_line_end,
 ];
 
 /// A call with a random list, some of them spoilt.
@@ -164,10 +167,10 @@ fn state_with_column(given: &State, object: usize, column: u8) -> State {
     registers.vdelbl = false;
     registers.enabl_new = true;
     state.sizes = [1; 2];
-    let (first_age, _) = lit_ages(&state, object);
+    let (first_age, _) = ages_that_show(&state, object);
     let position = (159 + first_age - column) % 160;
     state.objects[object].position = position;
-    state.objects[object].age = position.min(64);
+    set_age(&mut state, object, position.min(64));
     state
 }
 

@@ -29,12 +29,15 @@ pub fn write_to(random: &Random, address: u8) -> RegisterWrite {
 }
 
 /// A write to an address whose value mostly shows something: an enable mostly set, a graphic
-/// with many bits.
+/// with many bits, copies that mostly are 0, 5 or 7, of sizes 1, 2 and 4.
 pub fn showing_write(random: &Random, address: u8) -> RegisterWrite {
     let mut write = write_to(random, address);
     match register_at(address) {
         Some(Register::Enam(_) | Register::Enabl) if !random.one_in(4) => write.value |= 2,
         Some(Register::Grp(_)) => write.value |= random.byte(),
+        Some(Register::Nusiz(_)) if !random.one_in(4) => {
+            write.value = write.value & 0b1111_1000 | random.pick(&[0, 5, 7]);
+        }
         _ => {}
     }
     write

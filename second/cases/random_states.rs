@@ -1,9 +1,9 @@
 //! Random states: good ones drawn evenly, good ones drawn towards the edges of the rules, and
 //! bad ones.
 
+use crate::cases::drawings::{ages_that_show, edge_drawing};
 use crate::cases::random::Random;
 use crate::cases::state_fields::{checked_fields, from_bytes, to_bytes, FIELDS};
-use crate::model::lit::lit_ages;
 use crate::model::registers::Registers;
 use crate::model::state::{State, NO_MOTION};
 use std::array;
@@ -28,8 +28,8 @@ fn clear_live_flags_without_motion(state: &mut State) {
     }
 }
 
-/// A good state drawn towards the edges: of the line, of the starts, of the lit ages and of
-/// motion; objects are mostly lit or about to be.
+/// A good state drawn towards the edges: of the line, of the starts, of the lit ages, of the players'
+/// pixels and of motion; objects are mostly lit or about to be.
 pub fn edge_state(random: &Random) -> State {
     let mut state = even_state(random);
     state.h = match random.up_to(4) {
@@ -44,6 +44,9 @@ pub fn edge_state(random: &Random) -> State {
             state.objects[n].position = random.pick(&EDGE_POSITIONS);
         }
         state.objects[n].age = edge_age(random, &state, n);
+    }
+    for player in 0..2 {
+        state.drawings[player] = edge_drawing(random, &state, player);
     }
     draw_slot(random, &mut state);
     if random.one_in(3) {
@@ -75,7 +78,7 @@ fn light_registers(random: &Random, registers: &mut Registers) {
 
 /// An age, most often one that is lit or next to those that are.
 fn edge_age(random: &Random, state: &State, object: usize) -> u8 {
-    let (first, last) = lit_ages(state, object);
+    let (first, last) = ages_that_show(state, object);
     match random.up_to(4) {
         0 | 1 => random.pick(&[first - 2, first - 1, first, last - 1, last, last + 1]),
         2 | 3 => random.between(first - 1, last),

@@ -1,4 +1,4 @@
-//! The records of the case file, written and read: one byte for the kind, the 65 bytes of the
+//! The records of the case file, written and read: one byte for the kind, the 69 bytes of the
 //! state, and what a case of that kind has beside it.
 
 use crate::cases::case::{Call, Case, LineCase, RunCase, Single, TapeCase, WaitedWrite, Walk};

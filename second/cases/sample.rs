@@ -13,7 +13,7 @@ use std::io::Write;
 const MOST_BYTES: usize = 60_000;
 
 /// For each kind, one case in so many is taken.
-const ONE_IN: [usize; KINDS.len()] = [128, 20, 320, 750, 320];
+const ONE_IN: [usize; KINDS.len()] = [122, 20, 305, 750, 305];
 
 /// An outcome that is no refusal: acceptance, in a walk or run of all its clocks or calls.
 const ACCEPTED: u8 = 0;

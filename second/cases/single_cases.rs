@@ -8,20 +8,21 @@ use crate::cases::colour_writes::{
     kept_byte, set_colours, set_priority, write_changed_colour, COLOURS, DECIDING,
 };
 use crate::cases::drawing_writes::{is_for_drawing, write_changed_lit};
+use crate::cases::drawings::{ages_that_show, copies_of_size, set_age};
 use crate::cases::random::Random;
 use crate::cases::random_lists::{known_address, unknown_addresses, write_to};
 use crate::cases::random_states::{
     bad_state, edge_state, faulty_states, good_state, set_playfield,
 };
+use crate::cases::stretched_cases;
 use crate::model::clock::{run, RegisterWrite};
 use crate::model::latches::PAIRS;
-use crate::model::lit::lit_ages;
 use crate::model::object::{BL, M0, P0, P1, PF};
 use crate::model::registers::{register_at, Register, KNOWN};
 use crate::model::state::State;
 
 /// The groups in their order.
-pub const GROUPS: [Group<Single>; 12] = [
+pub const GROUPS: [Group<Single>; 18] = [
     addresses,
     drawing_registers,
     bad_states,
@@ -34,6 +35,12 @@ pub const GROUPS: [Group<Single>; 12] = [
     lit_combinations,
     colour_registers,
     blank_colours,
+    stretched_cases::pixels,
+    stretched_cases::beginnings,
+    stretched_cases::starts,
+    stretched_cases::rewritten,
+    stretched_cases::strobes,
+    stretched_cases::in_the_blank,
 ];
 
 /// A single clock with a good state, and a write or none.
@@ -55,22 +62,23 @@ fn write_or_none(random: &Random) -> Option<RegisterWrite> {
 }
 
 /// A write of any value to a register.
-fn write_of(random: &Random, register: Register) -> Option<RegisterWrite> {
+pub fn write_of(random: &Random, register: Register) -> Option<RegisterWrite> {
     Some(write_to(random, address_of(register)))
 }
 
 /// A state drawn towards the edges, but on a visible clock.
-fn visible_state(random: &Random) -> State {
+pub fn visible_state(random: &Random) -> State {
     State {
         h: random.between(76, 227),
         ..edge_state(random)
     }
 }
 
-/// Gives an object an age, and a position from which one clock reaches no start.
-fn set_age(state: &mut State, object: usize, age: u8) {
+/// Gives an object an age, a player the drawing of its copy at it, and a position from which one clock
+/// reaches no start.
+fn set_apart(state: &mut State, object: usize, age: u8) {
     state.objects[object].position = 100;
-    state.objects[object].age = age;
+    set_age(state, object, age);
 }
 
 /// Every known register eight times, every unknown address with a good state and with a bad one.
@@ -103,12 +111,16 @@ fn drawing_registers(random: &Random, singles: &mut Vec<Single>) {
     }
 }
 
-/// A visible clock that finds all objects at lit ages, whatever graphics and enables are.
+/// A visible clock that finds all objects at lit ages, the players' copies having kept their size,
+/// whatever graphics and enables are.
 fn lit_state(random: &Random) -> State {
     let mut state = visible_state(random);
     for object in 0..5 {
-        let (first, last) = lit_ages(&state, object);
-        set_age(&mut state, object, random.between(first - 1, last - 1));
+        let (first, last) = ages_that_show(&state, object);
+        set_apart(&mut state, object, random.between(first - 1, last - 1));
+    }
+    for player in 0..2 {
+        state.registers.copies[player] = copies_of_size(random, state.sizes[player]);
     }
     state
 }
@@ -202,7 +214,7 @@ fn starts(random: &Random, singles: &mut Vec<Single>) {
 
 /// A state in which an object at this position is pulsed on the next clock: on a visible clock,
 /// or by an extra pulse in the blank.
-fn pulsed_state(random: &Random, object: usize, position: u8) -> State {
+pub fn pulsed_state(random: &Random, object: usize, position: u8) -> State {
     let mut state = visible_state(random);
     if random.flag() {
         let half_byte = random.up_to(15);
@@ -222,10 +234,10 @@ fn lit_edges(random: &Random, singles: &mut Vec<Single>) {
             for (edge, shown) in (0..10).map(|n| (n / 2, n % 2 == 0)) {
                 let mut state = visible_state(random);
                 set_shape(random, &mut state, object, code, shown);
-                let (first, last) = lit_ages(&state, object);
+                let (first, last) = ages_that_show(&state, object);
                 let between = random.between(first, last);
                 let age = [first - 1, first, last, last + 1, between][edge];
-                set_age(&mut state, object, age - 1);
+                set_apart(&mut state, object, age - 1);
                 push(singles, state, None);
             }
         }
@@ -241,6 +253,7 @@ fn set_shape(random: &Random, state: &mut State, object: usize, code: u8, shown:
     match object {
         P0 | P1 => {
             state.sizes[object] = [1, 2, 4, 4][usize::from(code)];
+            registers.copies[object] = copies_of_size(random, state.sizes[object]);
             registers.refp[object] = random.flag();
             registers.vdelp[object] = by_old;
             let graphics = [random.byte() & 0b0111_1110, random.byte() | 0b1000_0001];
@@ -313,15 +326,15 @@ fn make_lit(random: &Random, state: &mut State, object: usize) {
         state.registers.grp_new[object] = 255;
         state.registers.grp_old[object] = 255;
     }
-    let (first, last) = lit_ages(state, object);
-    set_age(state, object, random.between(first, last - 1));
+    let (first, last) = ages_that_show(state, object);
+    set_apart(state, object, random.between(first, last - 1));
 }
 
 /// Makes an object or the playfield dark on the next clock.
 fn make_dark(state: &mut State, object: usize) {
     match object {
         PF => set_playfield(&mut state.registers, 0),
-        _ => set_age(state, object, 64),
+        _ => set_apart(state, object, 64),
     }
 }
 

@@ -1,7 +1,8 @@
-//! The state as 65 bytes, one a field, flags 0 or 1, in the order of the case file: each field's
+//! The state as 69 bytes, one a field, flags 0 or 1, in the order of the case file: each field's
 //! name, its range for refusal 1 and where the state holds it; and the faults of a state.
 
 use crate::cases::random::Random;
+use crate::model::drawing::NO_PIXEL;
 use crate::model::object::{BL, M0, M1, P0, P1};
 use crate::model::state::{State, NO_MOTION};
 use Kind::{Flag, Max, Size};
@@ -26,7 +27,7 @@ const fn field(name: &'static str, kind: Kind) -> Field {
 }
 
 /// The number of fields.
-pub const LENGTH: usize = 65;
+pub const LENGTH: usize = 69;
 
 /// The fields, each at the index of its byte.
 pub static FIELDS: [Field; LENGTH] = [
@@ -101,6 +102,10 @@ pub static FIELDS: [Field; LENGTH] = [
     field("COLUP1", Max(255, |s| &mut s.registers.colup[1])),
     field("COLUPF", Max(255, |s| &mut s.registers.colupf)),
     field("COLUBK", Max(255, |s| &mut s.registers.colubk)),
+    field("pixel of P0", Max(NO_PIXEL, |s| &mut s.drawings[P0].pixel)),
+    field("clocks shown of P0", Max(4, |s| &mut s.drawings[P0].shown)),
+    field("pixel of P1", Max(NO_PIXEL, |s| &mut s.drawings[P1].pixel)),
+    field("clocks shown of P1", Max(4, |s| &mut s.drawings[P1].shown)),
 ];
 
 impl Field {
@@ -192,6 +197,9 @@ mod tests {
         expected[21..24].copy_from_slice(&[1, 1, 16]);
         for age in [2, 6, 10, 14, 18] {
             expected[age] = 64;
+        }
+        for pixel in [65, 67] {
+            expected[pixel] = 8;
         }
         assert_eq!(start, expected);
         for (n, field) in FIELDS.iter().enumerate() {

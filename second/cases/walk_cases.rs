@@ -37,12 +37,13 @@ pub fn walk(random: &Random) -> Walk {
     Walk { state, writes }
 }
 
-/// The address of a walk's write: one in ten HMOVE, one in thirteen unknown, the others of any
-/// known register.
+/// The address of a walk's write: one in ten HMOVE, one in thirteen unknown, one in five NUSIZ0 or
+/// NUSIZ1, the others of any known register.
 fn walk_address(random: &Random) -> u8 {
     match random.up_to(129) {
         0..=12 => address_of(Register::Hmove),
         13..=22 => random.pick(&unknown_addresses()),
+        23..=48 => address_of(Register::Nusiz(random.index(2))),
         _ => known_address(random),
     }
 }

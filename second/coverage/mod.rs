@@ -2,6 +2,7 @@
 //! that runs every case and counts.
 
 mod colours;
+mod drawings;
 mod lines;
 mod refusals;
 mod runs;
@@ -17,11 +18,12 @@ use table::Table;
 /// The whole table.
 fn table() -> Table {
     let mut table = Table::default();
-    let all: [fn(&mut Table); 6] = [
+    let all: [fn(&mut Table); 7] = [
         refusals::add,
         steps::add,
         lines::add,
         colours::add,
+        drawings::add,
         runs::add,
         tapes::add,
     ];

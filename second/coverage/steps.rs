@@ -1,11 +1,13 @@
 //! The rows for accepted clocks, in the order of the paper's steps.
 
 use crate::cases::drawing_writes::{is_for_drawing, write_changed_lit};
+use crate::cases::drawings::{drawing_at, size_now};
 use crate::coverage::seen::Seen;
 use crate::coverage::table::{named, Rows, Table, FEW, FLAGS, MOVABLE, OBJECTS, PLAYERS};
+use crate::model::drawing::{first_age, NO_PIXEL};
 use crate::model::latches::{lit_together, PAIRS};
 use crate::model::lit::{at_lit_age, enabled, graphic, width};
-use crate::model::object::{is_start, size_of_copies, BL, NAMES, PF};
+use crate::model::object::{is_start, BL, NAMES, PF};
 use crate::model::registers::{Register, KNOWN};
 use crate::model::state::{State, NO_MOTION};
 
@@ -226,13 +228,14 @@ fn strobes(rows: &mut Rows) {
         .when(|seen, n| seen.strobed(n) && seen.reached_start(n));
     let name = "{}: strobe in place of a start with another size";
     rows.each(FEW, name, PLAYERS).when(|seen, n| {
-        let size = size_of_copies(seen.done().written.registers.copies[n]);
+        let size = size_now(&seen.done().written.registers, n);
         seen.strobed(n) && seen.reached_start(n) && seen.given.sizes[n] != size
     });
 }
 
-/// Step 8: a player lit in an unblanked column at each size, reflected or not, by each VDELP; and
-/// at the first and last lit age and the ages just outside, the graphic's bit at that end being 1.
+/// Step 8: a player lit in an unblanked column at each size, reflected or not, by each VDELP; and,
+/// while its size stays that of its start, at the first and last lit age and the ages just outside,
+/// the graphic's bit at that end being 1.
 fn players_lit(rows: &mut Rows) {
     for ((of, n), size) in PLAYERS.repeat(3).into_iter().zip([1, 1, 2, 2, 4, 4]) {
         for reflected in [false, true] {
@@ -248,24 +251,30 @@ fn players_lit(rows: &mut Rows) {
                     && registers.grp_new[n] != registers.grp_old[n]
             });
         }
-        let last = 4 + 8 * size;
-        let ages = named([4, 5, last, last + 1]);
+        let first = first_age(size);
+        let last = first + 8 * size - 1;
+        let ages = named([first - 1, first, last, last + 1]);
         rows.each(FEW, &format!("{of}: age {{}} with size {size}"), ages)
             .when(move |seen, age| {
                 let reflected = seen.after.registers.refp[n];
-                let outer = if reflected == (age <= 5) { 0x01 } else { 0x80 };
-                seen.lit(n, (5..=last).contains(&age))
+                let outer = if reflected == (age <= first) {
+                    0x01
+                } else {
+                    0x80
+                };
+                seen.lit(n, (first..=last).contains(&age))
                     && seen.after.objects[n].age == age
                     && seen.after.sizes[n] == size
+                    && size_now(&seen.after.registers, n) == size
+                    && seen.after.drawings[n] == drawing_at(age, size)
                     && graphic(&seen.after.registers, n) & outer != 0
             });
     }
-    rows.each(FEW, "{}: dark by its graphic at a lit age", PLAYERS)
-        .when(|seen, n| seen.lit(n, false) && at_lit_age(&seen.after, n));
+    rows.each(FEW, "{}: dark by its graphic at a pixel", PLAYERS)
+        .when(|seen, n| seen.lit(n, false) && seen.after.drawings[n].pixel < NO_PIXEL);
     let name = "{}: lit with a held size that is not that of NUSIZ";
     rows.each(FEW, name, PLAYERS).when(|seen, n| {
-        let size = size_of_copies(seen.after.registers.copies[n]);
-        seen.lit(n, true) && seen.after.sizes[n] != size
+        seen.lit(n, true) && seen.after.sizes[n] != size_now(&seen.after.registers, n)
     });
 }
 

@@ -1,6 +1,7 @@
 //! One colour clock: refusals 1 and 7, then the eleven steps in the paper's order.
 
 use crate::model::colour::colour;
+use crate::model::drawing::Drawing;
 use crate::model::latches::set_latches;
 use crate::model::lit::lit;
 use crate::model::object::{is_start, size_of_copies, BL, P0, P1};
@@ -199,7 +200,7 @@ fn step_motion(state: &mut State, hmove_written: bool) -> Motion {
     motion
 }
 
-/// Steps 6 and 7 for one object; answers whether it had a start.
+/// Steps 6, with request Two, and 7 for one object; answers whether it had a start.
 fn pulse_and_strobe(state: &mut State, n: usize, pulsed: bool, strobed: bool) -> bool {
     let mut started = false;
     // Step 6.
@@ -210,9 +211,9 @@ fn pulse_and_strobe(state: &mut State, n: usize, pulsed: bool, strobed: bool) ->
     }
     if started {
         state.objects[n].age = 0;
-        if n == P0 || n == P1 {
-            state.sizes[n] = size_of_copies(state.registers.copies[n]);
-        }
+    }
+    if pulsed && (n == P0 || n == P1) {
+        pulse_drawing(state, n, started);
     }
     // Step 7.
     if strobed {
@@ -222,6 +223,19 @@ fn pulse_and_strobe(state: &mut State, n: usize, pulsed: bool, strobed: bool) ->
         }
     }
     started
+}
+
+/// Step 6, with request Two: what a pulse, with a start or without, does to the copy that a player
+/// draws. The size is read from NUSIZ now; at a start it is kept.
+fn pulse_drawing(state: &mut State, player: usize, started: bool) {
+    let size = size_of_copies(state.registers.copies[player]);
+    if started {
+        state.sizes[player] = size;
+        state.drawings[player] = Drawing::NONE;
+    } else {
+        let (age, size_at_start) = (state.objects[player].age, state.sizes[player]);
+        state.drawings[player] = state.drawings[player].pulsed(age, size_at_start, size);
+    }
 }
 
 /// Request One: the colour, 0 in the horizontal blank and for a blank column.

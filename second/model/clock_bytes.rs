@@ -3,9 +3,10 @@
 
 use crate::model::clock::{clock, Answer};
 use crate::model::counter::{value_of_count, Value};
+use crate::model::drawing::Drawing;
 use crate::model::input::{bytes_of_input, MOST_TAPE_BYTES};
 use crate::model::line_faults::COLUMNS;
-use crate::model::object::Object;
+use crate::model::object::{Object, P0, P1};
 use crate::model::replay::play_line;
 use crate::model::state::State;
 use crate::model::tape::{stretch, FIRST_PLACE};
@@ -69,12 +70,15 @@ fn records(mut state: State, list: &[u8]) -> Vec<u8> {
 }
 
 /// The record of a clock on a state: h as the clock began, the answer byte, the slot and the late flag
-/// after it, then six bytes for each of P0, P1, M0, M1 and BL.
+/// after it, then six bytes for each of P0, P1, M0, M1 and BL, those of a player followed by two more.
 fn record(given: &State, answer: &Answer) -> Vec<u8> {
     let after = answer.state;
     let mut bytes = vec![given.h, answer.byte, after.slot, u8::from(after.late)];
-    for (old, new) in given.objects.into_iter().zip(after.objects) {
+    for (n, (old, new)) in given.objects.into_iter().zip(after.objects).enumerate() {
         bytes.extend(object_bytes(old, new));
+        if n == P0 || n == P1 {
+            bytes.extend(drawing_bytes(after.drawings[n]));
+        }
     }
     bytes
 }
@@ -90,6 +94,11 @@ fn object_bytes(old: Object, new: Object) -> [u8; 6] {
         new.motion,
         u8::from(new.live),
     ]
+}
+
+/// The bytes of a player's drawing after a clock: its pixel and its clocks shown.
+fn drawing_bytes(drawing: Drawing) -> [u8; 2] {
+    [drawing.pixel, drawing.shown]
 }
 
 /// The value of the position counter at a position, whose count is position / 4, rounded down. No

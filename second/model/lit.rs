@@ -1,10 +1,12 @@
-//! Steps 8 and 9: which of the players, missiles, ball and playfield are lit at this clock.
+//! Steps 8, with request Two for the players, and 9: which of the players, missiles, ball and
+//! playfield are lit at this clock.
 
+use crate::model::drawing::NO_PIXEL;
 use crate::model::object::{BL, M0, M1, P0, P1};
 use crate::model::registers::Registers;
 use crate::model::state::State;
 
-/// Whether P0, P1, M0, M1, BL and PF are lit, by the ages, sizes and registers as they stand.
+/// Whether P0, P1, M0, M1, BL and PF are lit, by the pixels, ages and registers as they stand.
 pub fn lit(state: &State) -> [bool; 6] {
     [
         player_lit(state, P0),
@@ -16,31 +18,17 @@ pub fn lit(state: &State) -> [bool; 6] {
     ]
 }
 
-/// Step 8: the first and the last age at which an object can be lit.
-pub fn lit_ages(state: &State, object: usize) -> (u8, u8) {
-    match object {
-        P0 | P1 => (5, 4 + 8 * state.sizes[object]),
-        _ => (4, 3 + width(&state.registers, object)),
-    }
-}
-
-/// Step 8: whether an object is at an age at which it can be lit.
-pub fn at_lit_age(state: &State, object: usize) -> bool {
-    let (first, last) = lit_ages(state, object);
-    (first..=last).contains(&state.objects[object].age)
-}
-
-/// Step 8: whether a player is lit: bit (age - 5) / size of its graphic, from bit 7 down, or
-/// from bit 0 up when reflected.
+/// Step 8, with request Two: whether a player is lit: the bit of its graphic for its pixel, from
+/// bit 7 down, or from bit 0 up when reflected; at pixel 8 none.
 fn player_lit(state: &State, player: usize) -> bool {
-    if !at_lit_age(state, player) {
+    let pixel = state.drawings[player].pixel;
+    if pixel == NO_PIXEL {
         return false;
     }
-    let number = (state.objects[player].age - 5) / state.sizes[player];
     let bit = if state.registers.refp[player] {
-        number
+        pixel
     } else {
-        7 - number
+        7 - pixel
     };
     is_set(graphic(&state.registers, player), bit)
 }
@@ -52,6 +40,17 @@ pub fn graphic(registers: &Registers, player: usize) -> u8 {
     } else {
         registers.grp_new[player]
     }
+}
+
+/// Step 8: the first and the last age at which a missile or the ball can be lit.
+pub fn lit_ages(registers: &Registers, object: usize) -> (u8, u8) {
+    (4, 3 + width(registers, object))
+}
+
+/// Step 8: whether a missile or the ball is at an age at which it can be lit.
+pub fn at_lit_age(state: &State, object: usize) -> bool {
+    let (first, last) = lit_ages(&state.registers, object);
+    (first..=last).contains(&state.objects[object].age)
 }
 
 /// Step 8: whether a missile or the ball is lit.

@@ -1,14 +1,16 @@
-//! The model: the chip of document 01 with the colour of document 02, request One, to be read with
-//! the papers in this order.
+//! The model: the chip of document 01 with the colour of document 02, request One, and its stretched
+//! players, request Two, to be read with the papers in this order.
 //!
 //! - `refusal`: a refusal's number and record index (Refusal numbers, the closing sentence).
 //! - `counter`: The six-bit counter, with refusal 10 of its calls.
 //! - `state`: The chip's state, the start state, refusal 1.
 //! - `object`: what the state holds of an object; its end slot of step 4, the pulse, the starts
 //!   and the sizes of step 6.
+//! - `drawing`: request Two, the pixel and its clocks shown, and what a pulse does to them in step 6.
 //! - `registers`: Registers, what a write keeps of a value, the copies of GRP0 and GRP1.
-//! - `clock`: One clock, steps 1 to 11 in order, with refusals 1 and 7 of a single clock.
-//! - `lit`: steps 8 and 9, what is lit.
+//! - `clock`: One clock, steps 1 to 11 in order, step 6 with request Two, with refusals 1 and 7 of a
+//!   single clock.
+//! - `lit`: steps 8, with request Two, and 9, what is lit.
 //! - `colour`: request One, the colour of a column.
 //! - `latches`: the pairs of step 10 and the latch read-out.
 //! - `write_list`: A line and a tape, the write list's length and its records.
@@ -28,6 +30,7 @@ pub mod clock;
 pub mod clock_bytes;
 pub mod colour;
 pub mod counter;
+pub mod drawing;
 pub mod first_lit;
 pub mod input;
 pub mod latches;

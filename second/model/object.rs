@@ -72,7 +72,7 @@ pub fn is_start(position: u8, copies: Option<u8>) -> bool {
     )
 }
 
-/// Step 6: the size that a player takes at a start.
+/// Step 6: the size that a player's NUSIZ asks for.
 pub fn size_of_copies(copies: u8) -> u8 {
     match copies {
         5 => 2,

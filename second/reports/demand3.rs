@@ -2,8 +2,9 @@
 //! of the accepted lines alone, and the two claims, of the position and of the picture.
 
 use crate::cases::case::{play_chain, Call, Played, RunCase, QUIET_CALLS};
+use crate::model::drawing::first_age;
 use crate::model::line_faults::COLUMNS;
-use crate::model::object::{BL, P0, P1};
+use crate::model::object::{size_of_copies, BL, P0, P1};
 use crate::model::registers::{register_at, Register, Registers};
 use crate::model::state::{State, NO_MOTION};
 use crate::model::write_list::{records, ListedWrite};
@@ -126,12 +127,15 @@ fn drawing_registers(registers: &Registers, object: usize) -> Vec<u8> {
     }
 }
 
-/// Whether a sum takes the first column of the object's main copy past column 0: that column,
-/// 4 - position for a player and 3 - position for the others, modulo 160, less the sum is not
-/// one of 0 to 159.
+/// Whether a sum takes the first column of the object's main copy past column 0: that column, 4 less
+/// the position for a player of size 1, 5 less it for one of size 2 or 4 and 3 less it for the others,
+/// modulo 160, less the sum is not one of 0 to 159.
 fn passes_column_0(before: &State, object: usize, sum: i32) -> bool {
-    let first = if object == P0 || object == P1 { 4 } else { 3 };
-    let column = modulo_160(first - i32::from(before.objects[object].position));
+    let first = match object {
+        P0 | P1 => first_age(size_of_copies(before.registers.copies[object])),
+        _ => 4,
+    };
+    let column = modulo_160(i32::from(first) - 1 - i32::from(before.objects[object].position));
     !(0..COLUMNS as i32).contains(&(column - sum))
 }
 
@@ -365,15 +369,21 @@ mod tests {
     #[test]
     fn sums_that_pass_column_0() {
         // Strobed at 30 the missile stands at column 3, strobed at 100 at column 36; a player at
-        // position 4 has its first column at 0.
+        // position 4 has its first column at 0, one of size 2 or 4 at 1.
         let mut player = State::START;
         player.objects[P0].position = 4;
+        let (mut of_size_2, mut of_size_4) = (player, player);
+        of_size_2.registers.copies[P0] = 5;
+        of_size_4.registers.copies[P0] = 7;
         let (at_3, at_36) = (missile_strobed_at(30), missile_strobed_at(100));
         let last = [
             (at_3, M0, 3, 1),
             (at_36, M0, 36, 1),
             (at_36, M0, -123, -1),
             (player, P0, 0, 1),
+            (of_size_2, P0, 1, 1),
+            (of_size_4, P0, 1, 1),
+            (of_size_4, P0, -158, -1),
         ];
         for (state, object, sum, further) in last {
             assert!(!passes_column_0(&state, object, sum));

@@ -6,7 +6,7 @@ use crate::cases::damage::DAMAGES;
 use crate::cases::random::Random;
 use crate::cases::random_lists::showing_lists;
 use crate::reports::failure::Failure;
-use crate::tapes::{colour_tapes, long_tapes, refused_tapes, shown_tapes};
+use crate::tapes::{colour_tapes, long_tapes, refused_tapes, shown_tapes, stretched_tapes};
 use std::fs;
 use std::path::Path;
 
@@ -25,6 +25,7 @@ pub type Tapes = Vec<(String, Vec<u8>)>;
 fn all() -> Tapes {
     let mut tapes = shown_tapes::tapes();
     tapes.extend(colour_tapes::tapes());
+    tapes.extend(stretched_tapes::tapes());
     tapes.extend(refused_tapes::tapes(&Random::new(REFUSED_SEED)));
     tapes.extend(long_tapes::tapes(&Random::new(LONG_SEED)));
     tapes.extend(random_tapes(&Random::new(RANDOM_SEED)));
@@ -116,7 +117,7 @@ mod tests {
     fn tapes_are_refused_as_their_names_say_and_damaged_ones_with_every_number() {
         let tapes = all();
         let names: HashSet<&String> = tapes.iter().map(|(name, _)| name).collect();
-        assert_eq!((tapes.len(), names.len()), (438, 438));
+        assert_eq!((tapes.len(), names.len()), (490, 490));
         let mut damaged = Vec::new();
         for (name, tape) in &tapes {
             let refusal = refusal(tape).unwrap_or_default();

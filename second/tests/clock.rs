@@ -1,6 +1,7 @@
 //! Tests of one clock: refusals 1 and 7, then the steps in their order.
 
 use crate::model::clock::clock;
+use crate::model::drawing::Drawing;
 use crate::model::latches::PAIRS;
 use crate::model::object::{BL, M0, M1, P0, P1, PF};
 use crate::model::registers::register_at;
@@ -31,6 +32,7 @@ fn placed(mut state: State, position: u8, age: u8) -> State {
 /// A state at clock h whose next clock, pulsed or not, lights all objects and the playfield.
 pub fn all_lit(h: u8, late: bool) -> State {
     let mut state = placed(State { late, ..at(h) }, 100, 6);
+    state.drawings = [Drawing { pixel: 1, shown: 1 }; 2];
     state.registers.grp_new = [0b1111_1001; 2];
     state.registers.enam = [true; 2];
     state.registers.enabl_new = true;

@@ -6,32 +6,36 @@ use crate::cases::build_lists::list_of;
 use crate::cases::build_tapes::tape_of;
 use crate::model::clock::Done;
 use crate::model::clock_bytes;
-use crate::model::object::{BL, M0, P0};
+use crate::model::object::{BL, M0, P0, P1};
 use crate::model::registers::Register;
 use crate::model::state::State;
 use crate::model::write_list::writes_by_clock;
 use crate::tests::counter::plain_step;
 use crate::tests::playing::{check, done, longest_tape, play_check};
 
-/// The bytes of a line that is run: 228 records of 34 bytes.
-const LINE: usize = 228 * 34;
+/// The bytes of a record, and of a line that is run: 228 records.
+const RECORD: usize = 38;
+const LINE: usize = 228 * RECORD;
 
 /// The places in a record of the answer byte, of the slot and of the late flag.
 const ANSWER: usize = 1;
 const SLOT: usize = 2;
 const LATE: usize = 3;
 
-/// The places in a record of what it tells of P0; those of each later object stand six further on.
+/// The places in a record of what it tells of P0; those of P1 stand eight further on, those of each
+/// later object as far on as the two players' and six bytes for each missile before it.
 const POSITION: usize = 4;
 const RISEN: usize = 5;
 const COUNTER: usize = 6;
 const AGE: usize = 7;
 const MOTION: usize = 8;
 const LIVE: usize = 9;
+const PIXEL: usize = 10;
+const SHOWN: usize = 11;
 
 /// The place in a record of what it tells of an object, from that of P0.
 fn of(object: usize, place: usize) -> usize {
-    place + 6 * object
+    place + [0, 8, 16, 22, 28][object]
 }
 
 /// What is written for an input of these bytes.
@@ -50,7 +54,7 @@ fn bytes_of_line(number: u16, tape: &[u8]) -> Vec<u8> {
 fn records(number: u16, tape: &[u8]) -> Vec<Vec<u8>> {
     let bytes = bytes_of_line(number, tape);
     assert_eq!(bytes.len(), LINE);
-    let records: Vec<Vec<u8>> = bytes.chunks(34).map(<[u8]>::to_vec).collect();
+    let records: Vec<Vec<u8>> = bytes.chunks(RECORD).map(<[u8]>::to_vec).collect();
     assert!(records.iter().map(|record| record[0]).eq(0..228));
     records
 }
@@ -95,6 +99,9 @@ fn described(h: u8, done: &Done) -> Vec<u8> {
         let value = u8::from_str_radix(&bits, 2).unwrap();
         bytes.extend([object.position, u8::from(rises), value]);
         bytes.extend([object.age, object.motion, u8::from(object.live)]);
+        if n < 2 {
+            bytes.extend([state.drawings[n].pixel, state.drawings[n].shown]);
+        }
     }
     bytes
 }
@@ -325,6 +332,26 @@ fn a_strobe_at_position_159_counts_as_risen() {
     }
 }
 
+// Two: "a copy starts drawing at age 5, or 6 when its size at the start is 2 or 4. On that pulse it
+// shows pixel 0 for the first time." Strobed at clock 100 it does so at clock 106 of the next line;
+// each pixel is shown for four clocks, then it is 8 and 0 again.
+#[test]
+fn a_players_pixel_and_clocks_shown_follow_its_live_flag() {
+    for (player, nusiz) in [(P0, 0x04), (P1, 0x05)] {
+        let strobed = vec![0, nusiz, 7, 100, 0x10 + player as u8, 0];
+        let records = records_of(1, &[strobed, vec![]]);
+        let both = |h: usize| [PIXEL, SHOWN].map(|place| records[h][of(player, place)]);
+        let pixels = (0..8).flat_map(|pixel| (1..=4).map(move |shown| [pixel, shown]));
+        assert!(pixels.eq((106..138).map(both)));
+        assert!((0..106).chain(138..228).all(|h| both(h) == [8, 0]));
+    }
+    let other = records_of(1, &[vec![0, 0x04, 7, 100, 0x10, 0], vec![]]);
+    assert_eq!(
+        [PIXEL, SHOWN].map(|place| other[110][of(P1, place)]),
+        [8, 0]
+    );
+}
+
 // "L being the line not run, from 0": a line past the tape's end, a refused line and the lines after
 // it are not run and nothing is written; those before it are.
 #[test]
@@ -369,7 +396,7 @@ fn the_lines_number_is_big_endian() {
     for (number, first, last) in numbers {
         let bytes = written(&[&number[..], &tape].concat());
         let values: Vec<u8> = bytes
-            .chunks(34)
+            .chunks(RECORD)
             .map(|record| record[of(P0, MOTION)])
             .collect();
         assert_eq!(

@@ -1,4 +1,4 @@
-//! Tests of what is lit: steps 8 and 9.
+//! Tests of what is lit: steps 8, with request Two, and 9.
 
 use crate::model::lit::lit;
 use crate::model::object::{BL, M0, M1, P0, P1, PF};
@@ -19,27 +19,43 @@ fn from(first: u8, number: u8) -> Vec<u8> {
     (first..first + number).collect()
 }
 
-// "Player at ages 5 to 4 + 8 x size, showing bit (age - 5) / size from bit 7 down, or from bit 0
-// up when reflected, of the new graphic, or the old with VDELP."
+/// The pixels at which a player of this state is lit.
+fn pixels_lit(state: &State, player: usize) -> Vec<u8> {
+    let mut state = *state;
+    let mut is_lit = |pixel: u8| {
+        state.drawings[player].pixel = pixel;
+        lit(&state)[player]
+    };
+    (0..=8).filter(|&pixel| is_lit(pixel)).collect()
+}
+
+// "Showing bit ... from bit 7 down, or from bit 0 up when reflected, of the new graphic, or the old
+// with VDELP." Two: the pixel is "0 to 8 (8: none)". Settled: lit exactly if the pixel is below 8 and
+// the graphic's bit is set, whatever age, size and clocks shown are.
 #[test]
-fn a_player_shows_each_bit_of_its_graphic_for_its_size() {
-    for (player, size) in [1, 2, 4].into_iter().flat_map(|n| [(P0, n), (P1, n)]) {
+fn a_player_shows_the_bit_of_its_graphic_for_its_pixel() {
+    let any = [1, 2, 4]
+        .into_iter()
+        .flat_map(|size| [(size, 5), (size, 64), (size, 0)]);
+    for (player, (size, age)) in any.flat_map(|any| [(P0, any), (P1, any)]) {
         let mut state = State::START;
         state.sizes[player] = size;
+        state.objects[player].age = age;
+        state.drawings[player].shown = 4 - size;
         state.registers.grp_new[player] = 255;
-        assert_eq!(ages_lit(&state, player), from(5, 8 * size));
-        assert_eq!(ages_lit(&state, 1 - player), []);
+        assert_eq!(pixels_lit(&state, player), from(0, 8));
+        assert_eq!(pixels_lit(&state, 1 - player), []);
         state.registers.vdelp[1 - player] = true;
         for bit in 0..8 {
             state.registers.grp_new[player] = 1 << bit;
             state.registers.refp = [player == P1, player == P0];
-            assert_eq!(ages_lit(&state, player), from(5 + (7 - bit) * size, size));
+            assert_eq!(pixels_lit(&state, player), [7 - bit]);
             state.registers.refp[player] = true;
-            assert_eq!(ages_lit(&state, player), from(5 + bit * size, size));
+            assert_eq!(pixels_lit(&state, player), [bit]);
         }
-        state.registers.grp_old[player] = 1;
+        state.registers.grp_old[player] = 2;
         state.registers.vdelp[player] = true;
-        assert_eq!(ages_lit(&state, player), from(5, size));
+        assert_eq!(pixels_lit(&state, player), [1]);
     }
 }
 

@@ -17,4 +17,5 @@ mod registers;
 mod replay;
 mod slips;
 mod state;
+mod stretched;
 mod tape;

@@ -4,12 +4,15 @@ use crate::model::refusal::Refusal;
 use crate::model::state::State;
 
 /// Asserts that refusal 1 is given for a state after a change, unless it is good. Before the change
-/// the state is odd but in range: the late flag and all latches set, held sizes with ages 64.
+/// the state is odd but in range: the late flag and all latches set, with ages 64 held sizes, a pixel
+/// shown no clocks and no pixel with clocks shown.
 fn assert_checked(change: impl Fn(&mut State), good: bool) {
     let mut state = State::START;
     state.late = true;
     state.latches = [true; 15];
     state.sizes = [4, 2];
+    state.drawings[0].pixel = 7;
+    state.drawings[1].shown = 3;
     change(&mut state);
     let refusal = Some(Refusal::without_record(1));
     assert_eq!(state.check().err(), refusal.filter(|_| !good));
@@ -19,10 +22,10 @@ fn assert_checked(change: impl Fn(&mut State), good: bool) {
 type Field = (usize, u8, fn(&mut State, usize, u8));
 
 // 1: "a state field is outside its range". One: "The four registers join the state with range 0 to
-// 255".
+// 255". Two: "Each player's state gains the pixel, 0 to 8 (8: none), and its clocks shown, 0 to 4".
 #[test]
 fn each_number_is_good_exactly_within_its_range() {
-    let fields: [Field; 12] = [
+    let fields: [Field; 14] = [
         (1, 227, |s, _, byte| s.h = byte),
         (5, 159, |s, n, byte| s.objects[n].position = byte),
         (5, 64, |s, n, byte| s.objects[n].age = byte),
@@ -35,6 +38,8 @@ fn each_number_is_good_exactly_within_its_range() {
         (2, 255, |s, n, byte| s.registers.colup[n] = byte),
         (1, 255, |s, _, byte| s.registers.colupf = byte),
         (1, 255, |s, _, byte| s.registers.colubk = byte),
+        (2, 8, |s, n, byte| s.drawings[n].pixel = byte),
+        (2, 4, |s, n, byte| s.drawings[n].shown = byte),
     ];
     for byte in 0..=255 {
         for (count, most, set) in fields {

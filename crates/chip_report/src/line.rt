@@ -53,23 +53,23 @@ fn show(n: u32, answer: LineAnswer, buffer: &[u8], colours: &[u8]) {
 }
 
 // A line call with lent buffers, and what is shown of it.
-fn called(n: u32, record: &[u8; 69], list: &[u8], buffer: &mut [u8], colours: &mut [u8]) {
+fn called(n: u32, record: &[u8; 73], list: &[u8], buffer: &mut [u8], colours: &mut [u8]) {
     let answer = line_called(state_from(record), list, buffer, colours, (n % 256) as u8);
     show(n, answer, buffer, colours);
 }
 
 // The row of a line call. Its list follows its record.
-pub(crate) fn row(n: u32, record: &[u8; 69]) {
+pub(crate) fn row(n: u32, record: &[u8; 73]) {
     let mut space = [0u8; 4096];
-    let length = length_of(record[67], record[68]);
+    let length = length_of(record[71], record[72]);
     read_part(&mut space, length);
     let list: &[u8] = &space;
     let mut room = [0u8; 255];
     let buffer: &mut [u8] = &mut room;
-    let lent = lent_of(record[65]);
+    let lent = lent_of(record[69]);
     let mut colour_room = [0u8; 255];
     let colours: &mut [u8] = &mut colour_room;
-    let colours_lent = lent_of(record[66]);
+    let colours_lent = lent_of(record[70]);
     called(
         n,
         record,

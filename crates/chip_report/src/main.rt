@@ -16,7 +16,7 @@ use libc::STDIN_FILENO;
 const MOST: u32 = 1000000;
 
 // The row of a case by its kind: its number among all cases, then its answer. Whether there is such a kind.
-fn row(kind: u8, number: u32, record: &[u8; 69]) -> bool {
+fn row(kind: u8, number: u32, record: &[u8; 73]) -> bool {
     match kind {
         0 => single::row(number, record),
         1 => walk::row(number, record),
@@ -31,11 +31,11 @@ fn row(kind: u8, number: u32, record: &[u8; 69]) -> bool {
 // The row of the next case. Whether there was one: not at the end of standard input, nor at an unknown kind.
 fn next(number: u32) -> bool {
     let mut kind = [0u8; 1];
-    let mut record = [0u8; 69];
+    let mut record = [0u8; 73];
     if io::read_full(STDIN_FILENO, &mut kind) < 1 {
         return false;
     }
-    if io::read_full(STDIN_FILENO, &mut record) < 69 {
+    if io::read_full(STDIN_FILENO, &mut record) < 73 {
         return false;
     }
     row(kind[0], number, &record)

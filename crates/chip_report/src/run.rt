@@ -80,7 +80,7 @@ fn digest_of(start: State, n: u32) -> u32 {
 }
 
 // The row of a run: its number and its digest. Its calls follow its record.
-pub(crate) fn row(n: u32, record: &[u8; 69]) {
+pub(crate) fn row(n: u32, record: &[u8; 73]) {
     heading(b"run ", n);
     hex(digest_of(state_from(record), n));
     text(b"\n");

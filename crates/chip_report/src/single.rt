@@ -10,18 +10,18 @@ use crate::state_bytes::state_from;
 use tia::Write;
 
 // The write of a single clock's record.
-fn write_of(record: &[u8; 69]) -> Write {
-    if record[65] == 0 {
+fn write_of(record: &[u8; 73]) -> Write {
+    if record[69] == 0 {
         return Write::Nothing;
     }
     Write::Register {
-        address: record[66],
-        value: record[67],
+        address: record[70],
+        value: record[71],
     }
 }
 
 // The row of a single clock: its answer, the digest of its state, and that state's read-out.
-pub(crate) fn row(n: u32, record: &[u8; 69]) {
+pub(crate) fn row(n: u32, record: &[u8; 73]) {
     let answer = tia::colour_clock(state_from(record), write_of(record));
     let state = answer.state;
     let out = tia::read_out(state);

@@ -1,6 +1,7 @@
-// The state as 65 bytes, one a field, in the order of the case file.
+// The state as 69 bytes, one a field, in the order of the case file.
 ghost use Prim.Native.Nat.{_≤_};
 use tia::Colours;
+use tia::Drawing;
 use tia::Enable;
 use tia::Graphic;
 use tia::Latches;
@@ -14,7 +15,7 @@ use tia::State;
 use tia::Timing;
 
 // The object of four bytes from a place.
-fn object_from(bytes: &[u8; 69], at: usize) -> Object
+fn object_from(bytes: &[u8; 73], at: usize) -> Object
     requires { ⌜ at ≤ 17 ⌝ }
 {
     Object {
@@ -26,7 +27,7 @@ fn object_from(bytes: &[u8; 69], at: usize) -> Object
 }
 
 // The latches, from byte 25 on.
-fn latches_from(bytes: &[u8; 69]) -> Latches {
+fn latches_from(bytes: &[u8; 73]) -> Latches {
     Latches {
         m0p1: bytes[25] != 0,
         m0p0: bytes[26] != 0,
@@ -47,7 +48,7 @@ fn latches_from(bytes: &[u8; 69]) -> Latches {
 }
 
 // The registers, from byte 40 on.
-fn registers_from(bytes: &[u8; 69]) -> Registers {
+fn registers_from(bytes: &[u8; 73]) -> Registers {
     Registers {
         nusiz0: Nusiz {
             copies: bytes[40],
@@ -85,8 +86,8 @@ fn registers_from(bytes: &[u8; 69]) -> Registers {
     }
 }
 
-// The state of the first 65 bytes.
-pub(crate) fn state_from(bytes: &[u8; 69]) -> State {
+// The state of the first 69 bytes.
+pub(crate) fn state_from(bytes: &[u8; 73]) -> State {
     State {
         timing: Timing {
             h: bytes[0],
@@ -97,10 +98,18 @@ pub(crate) fn state_from(bytes: &[u8; 69]) -> State {
             p0: Player {
                 body: object_from(bytes, 1),
                 size: bytes[21],
+                drawing: Drawing {
+                    pixel: bytes[65],
+                    shown: bytes[66],
+                },
             },
             p1: Player {
                 body: object_from(bytes, 5),
                 size: bytes[22],
+                drawing: Drawing {
+                    pixel: bytes[67],
+                    shown: bytes[68],
+                },
             },
             m0: object_from(bytes, 9),
             m1: object_from(bytes, 13),
@@ -117,14 +126,16 @@ pub(crate) fn state_from(bytes: &[u8; 69]) -> State {
     }
 }
 
-// The 65 bytes of a state.
-pub(crate) fn bytes_of(state: State) -> [u8; 65] {
+// The 69 bytes of a state.
+pub(crate) fn bytes_of(state: State) -> [u8; 69] {
     let timing = state.timing;
     let objects = state.objects;
     let player0 = objects.p0;
     let player1 = objects.p1;
     let p0 = player0.body;
     let p1 = player1.body;
+    let drawing0 = player0.drawing;
+    let drawing1 = player1.drawing;
     let m0 = objects.m0;
     let m1 = objects.m1;
     let bl = objects.bl;
@@ -203,5 +214,9 @@ pub(crate) fn bytes_of(state: State) -> [u8; 65] {
         colours.colup1,
         colours.colupf,
         colours.colubk,
+        drawing0.pixel,
+        drawing0.shown,
+        drawing1.pixel,
+        drawing1.shown,
     ]
 }

@@ -63,7 +63,7 @@ fn show_reading(tape: &[u8], at: usize) {
 }
 
 // Playing the line at a place of a tape, with lent buffers: its answer, and the digests of its state and its buffers.
-fn show_playing(record: &[u8; 69], tape: &[u8], at: usize, buffer: &mut [u8], colours: &mut [u8]) {
+fn show_playing(record: &[u8; 73], tape: &[u8], at: usize, buffer: &mut [u8], colours: &mut [u8]) {
     let answer = replay::play_line(state_from(record), tape, at, buffer, colours);
     let verdict = answer.verdict;
     let state = answer.state;
@@ -77,10 +77,10 @@ fn show_playing(record: &[u8; 69], tape: &[u8], at: usize, buffer: &mut [u8], co
 }
 
 // The row of a line of a tape. The rest of its place, the tape's length and the tape follow its record.
-pub(crate) fn row(n: u32, record: &[u8; 69]) {
+pub(crate) fn row(n: u32, record: &[u8; 73]) {
     let mut head = [0u8; 8];
     io::read_full(STDIN_FILENO, &mut head);
-    let high = four(record[67], record[68], head[0], head[1]);
+    let high = four(record[71], record[72], head[0], head[1]);
     let at = high * 4294967296 + four(head[2], head[3], head[4], head[5]);
     let mut space = [0u8; 4096];
     let length = length_of(head[6], head[7]);
@@ -88,10 +88,10 @@ pub(crate) fn row(n: u32, record: &[u8; 69]) {
     let tape: &[u8] = &space;
     let mut room = [0u8; 255];
     let buffer: &mut [u8] = &mut room;
-    let lent = lent_of(record[65]);
+    let lent = lent_of(record[69]);
     let mut colour_room = [0u8; 255];
     let colours: &mut [u8] = &mut colour_room;
-    let colours_lent = lent_of(record[66]);
+    let colours_lent = lent_of(record[70]);
     fill_both(
         &mut buffer[0..lent],
         &mut colours[0..colours_lent],

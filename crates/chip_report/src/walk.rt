@@ -95,7 +95,7 @@ fn digest_of(start: State, writes: &[u8; 192]) -> u32 {
 }
 
 // The row of a walk: its number and its digest. Its writes follow its record.
-pub(crate) fn row(n: u32, record: &[u8; 69]) {
+pub(crate) fn row(n: u32, record: &[u8; 73]) {
     let mut writes = [0u8; 192];
     io::read_full(STDIN_FILENO, &mut writes);
     heading(b"walk ", n);

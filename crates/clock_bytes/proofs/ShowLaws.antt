@@ -25,7 +25,7 @@ use Rattle.replay.proofs.PlayLaws.{play-answered}
 use Rattle.replay.specs.Replay.{PlayedLine, stateAfterLines, lineFrom, replayOf}
 use Rattle.replay.proofs.ReplayLaws.{enough}
 use Rattle.replay.proofs.FollowLaws.{Followed, followed-none, followed-here, followed-more}
-use Rattle.clock_bytes.specs.ClockBytes.{objectBytes, sharedBytes, recordOf, recordsFrom, lineRecords, firstRecords}
+use Rattle.clock_bytes.specs.ClockBytes.{objectBytes, playerBytes, sharedBytes, recordOf, recordsFrom, lineRecords, firstRecords}
 use Rattle.clock_bytes.specs.ClockBytes.{tapeRecords, numberOf, inputRecords, recordAt}
 
 -- Fewer than three bytes hold no record.
@@ -65,8 +65,7 @@ module _ (ws : List ℕ) (clock at : ℕ) (now : Searched ws clock at) where
 -- A record by its six parts.
 pub record-parts :
     {shared p0 p1 m0 m1 bl : List ℕ} (s : State) (a : ClockAnswer) → shared ≡ sharedBytes s a →
-    p0 ≡ objectBytes (s .objects .p0 .body) (a .state .objects .p0 .body) →
-    p1 ≡ objectBytes (s .objects .p1 .body) (a .state .objects .p1 .body) →
+    p0 ≡ playerBytes (s .objects .p0) (a .state .objects .p0) → p1 ≡ playerBytes (s .objects .p1) (a .state .objects .p1) →
     m0 ≡ objectBytes (s .objects .m0) (a .state .objects .m0) → m1 ≡ objectBytes (s .objects .m1) (a .state .objects .m1) →
     bl ≡ objectBytes (s .objects .bl) (a .state .objects .bl) →
     shared ++ (p0 ++ (p1 ++ (m0 ++ (m1 ++ bl)))) ≡ recordOf s a

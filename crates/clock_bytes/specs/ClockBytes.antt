@@ -1,4 +1,4 @@
--- What is written for each clock of a line: a record of 34 bytes about the state after the clock.
+-- What is written for each clock of a line: a record of 38 bytes about the state after the clock.
 use Prim.Native.Nat.{ℕ, zero, suc, _+_, _*_, _/_, _%_}
 use mathlib.Core.Bool.{Bool, cond}
 use mathlib.Core.List.{List, [], _∷_, _++_}
@@ -7,6 +7,7 @@ use lib.ListN.{take, drop, getD}
 use Rattle.counter.specs.Answers.{valueAnswer}
 use Rattle.tia.specs.declared.answers.ClockAnswer.{ClockAnswer}
 use Rattle.tia.specs.declared.object.Object.{Object}
+use Rattle.tia.specs.declared.object.Player.{Player}
 use Rattle.tia.specs.declared.state.State.{State}
 use Rattle.tia.specs.declared.write.Write.{Write}
 use Rattle.tia.specs.State.{startState}
@@ -38,6 +39,11 @@ objectBytes before after =
     ∷ flagByte (after .live)
     ∷ []
 
+-- A player: these, then its pixel, 0 to 7, or 8 for none, and the clocks that the pixel has been shown.
+unfoldable pub playerBytes : (before after : Player) → List ℕ
+playerBytes before after =
+    objectBytes (before .body) (after .body) ++ (after .drawing .pixel ∷ after .drawing .shown ∷ [])
+
 -- What all objects share: the clock, its answer byte, slot and late flag after it.
 unfoldable pub sharedBytes : (before : State) → ClockAnswer → List ℕ
 sharedBytes s a = s .timing .h ∷ a .byte ∷ a .state .timing .slot ∷ flagByte (a .state .timing .late) ∷ []
@@ -48,8 +54,8 @@ recordOf s a =
     let before = s .objects in
     let after = a .state .objects in
     sharedBytes s a
-    ++ (objectBytes (before .p0 .body) (after .p0 .body)
-    ++ (objectBytes (before .p1 .body) (after .p1 .body)
+    ++ (playerBytes (before .p0) (after .p0)
+    ++ (playerBytes (before .p1) (after .p1)
     ++ (objectBytes (before .m0) (after .m0) ++ (objectBytes (before .m1) (after .m1) ++ objectBytes (before .bl) (after .bl)))))
 
 -- So many clocks from a clock on, each as the single clock answers it.

@@ -1,5 +1,5 @@
 // Reads from standard input a line's number in two bytes, the higher first, and a tape; writes for each of the 228 clocks of that
-// line a record of 34 bytes about the state after it. Writes nothing for a line that is not run.
+// line a record of 38 bytes about the state after it. Writes nothing for a line that is not run.
 mod lookup;
 mod record;
 
@@ -11,6 +11,7 @@ ghost use Rattle.tape.specs.Reading.{longest};
 ghost use Rattle.clock_bytes.specs.ClockBytes.{recordOf, lineRecords, tapeRecords, inputRecords, recordAt};
 use crate::lookup::write_at;
 use crate::record::object_bytes;
+use crate::record::player_bytes;
 use crate::record::shared_bytes;
 use libc::STDIN_FILENO;
 use libc::STDOUT_FILENO;
@@ -50,8 +51,8 @@ fn show_clock(state: State, answer: ClockAnswer, input: &[u8], h: u8)
     let next = answer.state;
     let after = next.objects;
     let shared = shared_bytes(state, answer);
-    let p0 = object_bytes(before.p0.body, after.p0.body);
-    let p1 = object_bytes(before.p1.body, after.p1.body);
+    let p0 = player_bytes(before.p0, after.p0);
+    let p1 = player_bytes(before.p1, after.p1);
     let m0 = object_bytes(before.m0, after.m0);
     let m1 = object_bytes(before.m1, after.m1);
     let bl = object_bytes(before.bl, after.bl);

@@ -1,9 +1,10 @@
 // The bytes of a clock's record.
 ghost use mathlib.Core.Path.{_≡_};
-ghost use Rattle.clock_bytes.specs.ClockBytes.{flagByte, rose, counterValue, objectBytes, sharedBytes};
+ghost use Rattle.clock_bytes.specs.ClockBytes.{flagByte, rose, counterValue, objectBytes, playerBytes, sharedBytes};
 use counter::Found;
 use tia::ClockAnswer;
 use tia::Object;
+use tia::Player;
 use tia::State;
 
 // The columns of a line, after which a position is 0 again.
@@ -47,6 +48,24 @@ pub(crate) fn object_bytes(before: Object, after: Object) -> [u8; 6]
         after.age,
         after.motion,
         flag_byte(after.live),
+    ]
+}
+
+// The bytes of a player before and after a clock: those of an object, its pixel and the clocks that it has been shown.
+pub(crate) fn player_bytes(before: Player, after: Player) -> [u8; 8]
+    ensures { λ r. ⌜ r ≡ playerBytes before after ⌝ }
+{
+    let body = object_bytes(before.body, after.body);
+    let drawing = after.drawing;
+    [
+        body[0],
+        body[1],
+        body[2],
+        body[3],
+        body[4],
+        body[5],
+        drawing.pixel,
+        drawing.shown,
     ]
 }
 

@@ -9,7 +9,8 @@ use Rattle.tia.specs.State.{playerInRange, objectsInRange, playfieldInRa
 use Rattle.tia.specs.State.{inRange, liveAtRest, badState, startState}
 use Rattle.tia.specs.Signed.{signed, mod160}
 use Rattle.tia.specs.Object.{sizeOf, objectMoved, objectAfter, playerAfter, missileAfter, ballAfter}
-use Rattle.tia.specs.Lit.{playerLit, widthOf, missileLit, ballLit, litOf, litBits, answerByte}
+use Rattle.tia.specs.Drawing.{nextDrawing, drawingLit}
+use Rattle.tia.specs.Lit.{widthOf, missileLit, ballLit, litOf, litBits, answerByte}
 use Rattle.tia.specs.Playfield.{playfieldBit, playfieldIndex, playfieldLit}
 use Rattle.tia.specs.Latches.{latchesWritten, latchesAfter, readOut}
 use Rattle.tia.specs.Colour.{shownColour, colourOf}
@@ -37,12 +38,12 @@ objectSteps = tt
 
 -- .. what is lit then (steps 8 to 10), ..
 unfoldable pub litSteps : Unit {0}
-unfolding playerLit widthOf missileLit ballLit playfieldBit playfieldIndex playfieldLit litOf litBits answerByte
+unfolding drawingLit widthOf missileLit ballLit playfieldBit playfieldIndex playfieldLit litOf litBits answerByte
 litSteps = tt
 
 -- .. and all of it.
 unfoldable pub clock : Unit {0}
-unfolding objectSteps litSteps signed sizeOf latchesWritten latchesAfter coloursAfter shownColour colourOf
+unfolding objectSteps litSteps signed sizeOf nextDrawing latchesWritten latchesAfter coloursAfter shownColour colourOf
 clock = tt
 
 -- The check of a write list, and the line.

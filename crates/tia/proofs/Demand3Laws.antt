@@ -14,7 +14,7 @@ use Rattle.tia.specs.Signed.{mod160}
 use Rattle.tia.specs.Clock.{clockOf}
 use Rattle.tia.specs.WriteList.{recordsOf, writeAt}
 use Rattle.tia.specs.Line.{lineOf, Buffers, pictures}
-use Rattle.tia.specs.Movable.{Movable, Drawing, numberOf, positionOf, motionOf, motionRegisterOf, drawingOf}
+use Rattle.tia.specs.Movable.{Movable, DrawingRegisters, numberOf, positionOf, motionOf, motionRegisterOf, drawingOf}
 use Rattle.tia.specs.Run.{Call, LineCall, Meets, stateAfter, acceptedLists, reckonLines, sumOf}
 use Rattle.tia.specs.Demand3.{turned, bitAt, Quiet, LineStart, PositionClaim, QuietLines, PictureClaim, Demand3}
 use Rattle.tia.proofs.StateLaws.{good-timing}
@@ -139,7 +139,7 @@ picture-claim line meets o s quiet calls at-start ok drawn =
     column : (x : ℕ) → x < 160 → bitAt o (line s4 (quiet .last) .after .objects) x ≡ bitAt o (line s1 (quiet .second) .after .objects) (turned x sum)
     column x h =
         quiet-picture line o s4 (quiet .last) (three .at-rest) (three .settled) four x h
-        ∙ ap (λ (d : Drawing). drawnAt d ((positionOf o s4 + x + 1) % 160)) drawing
+        ∙ ap (λ (d : DrawingRegisters). drawnAt d ((positionOf o s4 + x + 1) % 160)) drawing
         ∙ ap (drawnAt (drawingOf o (s1 .registers))) (same-place (positionOf o s1) (positionOf o s4) x sum place)
         ∙ sym (quiet-picture line o s1 (quiet .second) (one .at-rest) (one .settled) two (turned x sum) (mod-below _))
 

@@ -9,11 +9,11 @@ pub mod WriteLaws
 pub mod StateLaws
 -- The slot that ends a motion, 8 plus the signed value, is a remainder; a pulse steps the position counter.
 pub mod MotionLaws
--- When a player is lit, by its age; an answer byte shows an object exactly where it has the object's bit.
+-- An answer byte shows an object exactly where it has the object's bit.
 pub mod LitLaws
 -- Which colour is seen in each order of the layers; every colour is even.
 pub mod ColourLaws
--- Registers, colours, objects and timing stay in their ranges, ..
+-- Registers, colours, objects, drawings and timing stay in their ranges, ..
 pub mod RangeLaws
 -- .. so every clock keeps a good state good.
 pub mod GoodLaws
@@ -60,5 +60,7 @@ pub mod QuietLaws
 pub mod Demand3Laws
 -- == Colours disturb nothing: a clock, a line and a run.
 pub mod ApartLaws
+-- == A player whose size stays is lit by its age
+pub mod SteadyLaws
 -- == Cases that are proved by running the definitions
 pub mod TableProofs

@@ -1,12 +1,13 @@
--- Every part of a state stays in its range: registers, colours, objects and timing.
+-- Every part of a state stays in its range: registers, colours, objects, drawings and timing.
 use mathlib.Core.Path.{_≡_, refl}
-use mathlib.Core.Bool.{Bool, true, false, cond, _&&_, _||_}
+use mathlib.Core.Bool.{Bool, true, false, cond, _&&_}
 use Prim.Native.Nat.{ℕ, _+_, _%_, _/_, _≤_, zero-le}
 use native.Mathlib.Omega.{arith}
-use borrow.Author.Tests.{le-leb, leb-true, ltb-true}
+use borrow.Author.Tests.{le-leb, leb-true, leb-false, ltb-true}
 use lib.Dec.{eqb, ltb, leb}
 use Rattle.laws.proofs.Bools.{and-both, and-first, and-second, cond-passes}
 use Rattle.tia.specs.declared.colours.Colours.{Colours}
+use Rattle.tia.specs.declared.drawing.Drawing.{Drawing}
 use Rattle.tia.specs.declared.object.Object.{Object}
 use Rattle.tia.specs.declared.object.Player.{Player}
 use Rattle.tia.specs.declared.playfield.Playfield.{Playfield}
@@ -20,7 +21,9 @@ use Rattle.tia.specs.declared.write.Write.{Write}
 use Rattle.tia.specs.Write.{ByteWritten, NUSIZ0, NUSIZ1, COLUP0, COLUP1, COLUPF, COLUBK, CTRLPF, REFP0, REFP1, PF0, PF1, PF2, GRP0, GRP1, HMBL, HMM0, HMM1, HMP0, HMP1, RESBL}
 use Rattle.tia.specs.Write.{RESM0, RESM1, RESP0, RESP1, VDELP0, VDELP1, HMOVE, HMCLR, hits, byteOf}
 use Rattle.tia.specs.Registers.{upper, nusizAfter, graphicAfter, playfieldAfter, registersAfter, coloursAfter}
-use Rattle.tia.specs.State.{timingInRange, objectInRange, playerInRange, objectsInRange, nusizInRange, playfieldInRange, graphicInRange, registersInRange, coloursInRange}
+use Rattle.tia.specs.Drawing.{noDrawing, drawingAge, nextPixel, shownAgain, goneOn, nextDrawing}
+use Rattle.tia.specs.State.{timingInRange, objectInRange, sizeInRange, drawingInRange, playerInRange, objectsInRange, nusizInRange}
+use Rattle.tia.specs.State.{playfieldInRange, graphicInRange, registersInRange, coloursInRange}
 use Rattle.tia.specs.Timing.{timingWritten, comparing, timingAfter}
 use Rattle.tia.specs.Object.{objectWritten, slotPassed, pulsedIf, strobedIf, isPulsed, isStarted, older, sizeOf, objectMoved, objectAfter}
 use Rattle.tia.specs.Object.{playerAfter, missileAfter, ballAfter}
@@ -140,35 +143,80 @@ object-stays :
 unfolding objectAfter
 object-stays k strobe hm copies w o ok = moved-stays k (hits w strobe) copies (objectWritten hm w o) (written-stays hm w o ok)
 
--- A held size is 1, 2 or 4.
-isSize : ℕ → Bool
-isSize n = eqb n 1 || (eqb n 2 || eqb n 4)
-
-size-taken : (copies : ℕ) → isSize (sizeOf copies) ≡ true
-unfolding isSize sizeOf
-size-taken copies =
+-- A size is 1, 2 or 4, and so at most 4.
+pub of-sizes : (test : ℕ → Bool) (copies : ℕ) → test 1 ≡ true → test 2 ≡ true → test 4 ≡ true → test (sizeOf copies) ≡ true
+unfolding sizeOf
+of-sizes test copies one two four =
     cond-passes
-    isSize
+    test
     (eqb copies 5)
     {x = 2}
     {y = cond (eqb copies 7) 4 1}
+    two
+    (cond-passes test (eqb copies 7) {x = 4} {y = 1} four one)
+
+size-taken : (copies : ℕ) → sizeInRange (sizeOf copies) ≡ true
+size-taken copies = of-sizes sizeInRange copies refl refl refl
+
+size-up-to : (copies : ℕ) → sizeOf copies ≤ 4
+size-up-to copies = leb-true (sizeOf copies) 4 (of-sizes (λ n. leb n 4) copies refl refl refl)
+
+-- A drawing: the next pixel is at most 8, and a pixel is shown again only as long as its clocks are below a size.
+gone-on-stays : (size : ℕ) (d : Drawing) → size ≤ 4 → drawingInRange d ≡ true → drawingInRange (goneOn size d) ≡ true
+gone-on-stays size d few ok = by-tests (ltb (d .pixel) 8) refl (leb size (d .shown)) refl
+  where
+    by-tests :
+        (drawn : Bool) → ltb (d .pixel) 8 ≡ drawn → (enough : Bool) → leb size (d .shown) ≡ enough →
+        drawingInRange (cond drawn (cond enough (nextPixel d) (shownAgain d)) d) ≡ true
+    by-tests false e enough f = ok
+    by-tests true e true f =
+        cond-passes
+        drawingInRange
+        (eqb (d .pixel) 7)
+        {x = noDrawing}
+        {y = record { pixel = d .pixel + 1; shown = 1 }}
+        refl
+        (and-both (le-leb (d .pixel + 1) 8 (omega (arith, ltb-true (d .pixel) 8 e))) refl)
+    by-tests true e false f =
+        and-both
+        (and-first (leb (d .pixel) 8) _ ok)
+        (le-leb (d .shown + 1) 4 (omega (arith, few, leb-false size (d .shown) f)))
+
+drawing-stays :
+    (pulse start : Bool) (age held size : ℕ) (d : Drawing) → size ≤ 4 → drawingInRange d ≡ true →
+    drawingInRange (cond pulse (nextDrawing start age held size d) d) ≡ true
+unfolding nextDrawing
+drawing-stays pulse start age held size d few ok =
+    cond-passes
+    drawingInRange
+    pulse
+    (cond-passes
+    drawingInRange
+    start
     refl
-    (cond-passes isSize (eqb copies 7) {x = 4} {y = 1} refl refl)
+    (cond-passes drawingInRange (eqb age (drawingAge held)) refl (gone-on-stays size d few ok)))
+    ok
 
 player-stays :
     (k : Tick) (strobe hm copies : ℕ) (w : Write) (p : Player) → playerInRange p ≡ true →
     playerInRange (playerAfter k strobe hm copies w p) ≡ true
-unfolding playerInRange playerAfter isSize
+unfolding playerInRange playerAfter
 player-stays k strobe hm copies w p ok =
+    let moved = objectAfter k strobe hm copies w (p .body) in
+    let rest = and-second (objectInRange (p .body)) _ ok in
     and-both
     (object-stays k strobe hm copies w (p .body) (and-first (objectInRange (p .body)) _ ok))
-    (cond-passes
-    isSize
-    (objectAfter k strobe hm copies w (p .body) .started)
-    {x = sizeOf copies}
-    {y = p .size}
-    (size-taken copies)
-    (and-second (objectInRange (p .body)) _ ok))
+    (and-both
+    (cond-passes sizeInRange (moved .started) {x = sizeOf copies} {y = p .size} (size-taken copies) (and-first (sizeInRange (p .size)) _ rest))
+    (drawing-stays
+    (moved .pulsed)
+    (moved .started)
+    (moved .object .age)
+    (p .size)
+    (sizeOf copies)
+    (p .drawing)
+    (size-up-to copies)
+    (and-second (sizeInRange (p .size)) _ rest)))
 
 ball-stays : (k : Tick) (w : Write) (o : Object) → objectInRange o ≡ true → objectInRange (ballAfter k w o) ≡ true
 unfolding ballAfter

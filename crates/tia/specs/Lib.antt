@@ -4,6 +4,7 @@ pub mod Registers
 pub mod State
 pub mod Timing
 pub mod Signed
+pub mod Drawing
 pub mod Object
 pub mod Lit
 pub mod Playfield
@@ -20,7 +21,9 @@ pub mod Movable
 pub mod Run
 pub mod Demand3
 pub mod Apart
+pub mod Steady
 pub mod Cases
 pub mod ColourCases
+pub mod StretchCases
 pub mod RunCases
 pub mod PictureCases

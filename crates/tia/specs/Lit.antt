@@ -1,8 +1,8 @@
 -- Which objects a clock lights (steps 8 and 9), and its answer byte (step 10).
-use Prim.Native.Nat.{ℕ, _+_, _-_, _*_, _/_, _%_}
+use Prim.Native.Nat.{ℕ, _+_, _-_, _/_, _%_}
 use mathlib.Core.Bool.{Bool, cond, _&&_}
 use lib.Dec.{eqb, ltb, leb}
-use Rattle.laws.specs.Bits.{bit, weight}
+use Rattle.laws.specs.Bits.{weight}
 use Rattle.tia.specs.declared.lit.Lit.{Lit}
 use Rattle.tia.specs.declared.object.Object.{Object}
 use Rattle.tia.specs.declared.object.Player.{Player}
@@ -11,21 +11,12 @@ use Rattle.tia.specs.declared.registers.Graphic.{Graphic}
 use Rattle.tia.specs.declared.registers.Registers.{Registers}
 use Rattle.tia.specs.declared.state.Objects.{Objects}
 use Rattle.tia.specs.Timing.{blankClocks}
+use Rattle.tia.specs.Drawing.{drawingLit}
 use Rattle.tia.specs.Playfield.{playfieldLit}
 
--- 8. Lit: player at ages 5 to 4 + 8 x size, showing bit (age - 5) / size from bit 7 down, or from bit 0 up when
--- reflected, of the new graphic, or the old with VDELP. Age 5 is *kit*.
-abbrev pub shownGraphic : Graphic → ℕ
-shownGraphic g = cond (g .delayed) (g .old) (g .new)
-
-abbrev pub shownBit : Graphic → ℕ → Bool
-shownBit g n = bit (cond (g .reflected) n (7 - n)) (shownGraphic g)
-
-abbrev pub drawnFrom : Graphic → (size age : ℕ) → Bool
-drawnFrom g size age = (leb 5 age && leb age (4 + 8 * size)) && shownBit g ((age - 5) / size)
-
-unfoldable pub playerLit : Graphic → Player → Bool
-playerLit g p = drawnFrom g (p .size) (p .body .age)
+-- 8. Lit: a player by its drawing (document 02, Two).
+abbrev pub playerLit : Graphic → Player → Bool
+playerLit g p = drawingLit g (p .drawing)
 
 -- Missile and ball at ages 4 to 3 + width when enabled. Age 4 is *kit*.
 unfoldable pub widthOf : ℕ → ℕ

@@ -53,12 +53,12 @@ motionOf o s = bodyOf o (s .objects) .motion
 
 -- Drawing registers: for a player copies, reflection, new and old graphic, VDELP; for a missile copies, width, enable; for the
 -- ball width, new and old enable, VDELBL.
-pub data Drawing : Type 0 where
-  player : (copies : ℕ) (graphic : Graphic) → Drawing
-  missile : (copies width : ℕ) (enable : Bool) → Drawing
-  ball : (width : ℕ) (new old delayed : Bool) → Drawing
+pub data DrawingRegisters : Type 0 where
+  player : (copies : ℕ) (graphic : Graphic) → DrawingRegisters
+  missile : (copies width : ℕ) (enable : Bool) → DrawingRegisters
+  ball : (width : ℕ) (new old delayed : Bool) → DrawingRegisters
 
-abbrev pub drawingOf : Movable → Registers → Drawing
+abbrev pub drawingOf : Movable → Registers → DrawingRegisters
 drawingOf P0 r = player (r .nusiz0 .copies) (r .graphic0)
 drawingOf P1 r = player (r .nusiz1 .copies) (r .graphic1)
 drawingOf M0 r = missile (r .nusiz0 .copies) (r .nusiz0 .width) (r .enam0)

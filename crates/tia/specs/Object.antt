@@ -12,6 +12,7 @@ use Rattle.tia.specs.declared.write.Write.{Write}
 use Rattle.tia.specs.Write.{HMBL, HMCLR, HMOVE, RESBL, hits, byteOf}
 use Rattle.tia.specs.Registers.{upper}
 use Rattle.tia.specs.Signed.{signed, isNumber}
+use Rattle.tia.specs.Drawing.{nextDrawing}
 
 -- Positions run over the 160 columns of a line.
 abbrev pub columns : ℕ
@@ -102,18 +103,25 @@ isStarted k strobe copies o = isPulsed k o && (not strobe && starts copies (reac
 -- 4 to 7, for an object after the write.
 unfoldable pub objectMoved : Tick → Bool → ℕ → Object → Moved
 objectMoved k strobe copies o =
+    let pulse = isPulsed k o in
     let start = isStarted k strobe copies o in
-    record { object = strobedIf strobe (pulsedIf (isPulsed k o) start (slotPassed k o)); started = start }
+    record { object = strobedIf strobe (pulsedIf pulse start (slotPassed k o)); pulsed = pulse; started = start }
 
 -- 2 and 4 to 7: an object's part of a clock, by the addresses of its strobe and its motion register.
 unfoldable pub objectAfter : Tick → (strobe hm copies : ℕ) → Write → Object → Moved
 objectAfter k strobe hm copies w o = objectMoved k (hits w strobe) copies (objectWritten hm w o)
 
--- 6. .. a player then takes its size from NUSIZ.
+-- 6. .. a player then takes its size from NUSIZ. On a pulse its drawing goes on, by the size at the start and the size that NUSIZ
+-- gives now (document 02, Two).
 unfoldable pub playerAfter : Tick → (strobe hm copies : ℕ) → Write → Player → Player
 playerAfter k strobe hm copies w p =
     let moved = objectAfter k strobe hm copies w (p .body) in
-    record { body = moved .object; size = cond (moved .started) (sizeOf copies) (p .size) }
+    let drawn = nextDrawing (moved .started) (moved .object .age) (p .size) (sizeOf copies) (p .drawing) in
+    record {
+      body = moved .object;
+      size = cond (moved .started) (sizeOf copies) (p .size);
+      drawing = cond (moved .pulsed) drawn (p .drawing);
+    }
 
 -- A missile is an object and nothing more.
 unfoldable pub missileAfter : Tick → (strobe hm copies : ℕ) → Write → Object → Object

@@ -3,13 +3,14 @@ use Prim.Native.Nat.{ℕ, zero, suc}
 use mathlib.Core.Path.{refl}
 use mathlib.Core.Bool.{Bool, Bool·beq, true, false, cond}
 use mathlib.Core.List.{List, [], _∷_}
-use lib.IntN.{ℤ, pos}
+use lib.IntN.{ℤ, pos, negsuc}
 use Rattle.tia.specs.declared.registers.Graphic.{Graphic}
 use Rattle.tia.specs.declared.state.State.{State}
-use Rattle.tia.specs.Write.{GRP0, GRP1, HMOVE, HMP0}
+use Rattle.tia.specs.Write.{GRP0, GRP1, HMOVE, HMP0, NUSIZ0}
 use Rattle.tia.specs.State.{startObject, startPlayer, startNusiz, startGraphic, startEnable, startPlayfield, startColours, noLatches}
 use Rattle.tia.specs.Object.{columns}
-use Rattle.tia.specs.Movable.{Movable, Drawing, player, drawingOf}
+use Rattle.tia.specs.Drawing.{noDrawing}
+use Rattle.tia.specs.Movable.{Movable, DrawingRegisters, player, drawingOf}
 use Rattle.tia.specs.Run.{Call, definedLine, stateAfter, acceptedLists, sumOf, allowed}
 use Rattle.tia.specs.Demand3.{turned, bitAt}
 use Rattle.tia.specs.RunCases.{calling}
@@ -19,8 +20,8 @@ use Rattle.tia.specs.RunCases.{calling}
 pub record PictureOutcome : Type 0 where
   pub premises : Bool
   pub sum : ℤ
-  pub before : Drawing
-  pub after : Drawing
+  pub before : DrawingRegisters
+  pub after : DrawingRegisters
   pub lit : ℕ
   pub agreeing : ℕ
 
@@ -54,7 +55,7 @@ playerAt p copies graphic =
       timing = record { h = 0; slot = 16; late = false };
       objects =
           record {
-            p0 = record { body = record { position = p; age = 64; motion = 0; live = false }; size = 1 };
+            p0 = record { body = record { position = p; age = 64; motion = 0; live = false }; size = 1; drawing = noDrawing };
             p1 = startPlayer;
             m0 = startObject;
             m1 = startObject;
@@ -102,4 +103,11 @@ pictureCases =
     ∷ [])
     (pos 6)
     12
+    -- One copy of four times the size, which is stretched otherwise during the run. It runs over the line's end, columns 148 to 19, and
+    -- is moved right by 3.
+    ∷ picturing 18 7
+    (record { reflected = true; new = 0xA5; old = 0; delayed = false })
+    (calling (0 ∷ HMP0 ∷ 0xD0 ∷ 9 ∷ HMOVE ∷ 0 ∷ 80 ∷ NUSIZ0 ∷ 5 ∷ 225 ∷ NUSIZ0 ∷ 7 ∷ []) refl ∷ [])
+    (negsuc 2)
+    16
     ∷ []

@@ -3,6 +3,7 @@ use Prim.Native.Nat.{ℕ}
 use mathlib.Core.Bool.{Bool, false, _&&_, _||_, not}
 use lib.Dec.{eqb, leb}
 use Rattle.tia.specs.declared.colours.Colours.{Colours}
+use Rattle.tia.specs.declared.drawing.Drawing.{Drawing}
 use Rattle.tia.specs.declared.latches.Latches.{Latches}
 use Rattle.tia.specs.declared.object.Object.{Object}
 use Rattle.tia.specs.declared.object.Player.{Player}
@@ -14,6 +15,7 @@ use Rattle.tia.specs.declared.registers.Registers.{Registers}
 use Rattle.tia.specs.declared.state.Objects.{Objects}
 use Rattle.tia.specs.declared.state.State.{State}
 use Rattle.tia.specs.declared.timing.Timing.{Timing}
+use Rattle.tia.specs.Drawing.{noPixel, noDrawing}
 
 -- Line clock h, 0 to 227. Motion slot 0 to 16.
 abbrev pub timingInRange : Timing → Bool
@@ -23,9 +25,15 @@ timingInRange t = leb (t .h) 227 && leb (t .slot) 16
 abbrev pub objectInRange : Object → Bool
 objectInRange o = leb (o .position) 159 && (leb (o .age) 64 && leb (o .motion) 15)
 
--- For each player also a held size 1, 2 or 4.
+-- For each player also a held size 1, 2 or 4; and the pixel, 0 to 8, and its clocks shown, 0 to 4 (document 02, Two).
+abbrev pub sizeInRange : (size : ℕ) → Bool
+sizeInRange size = eqb size 1 || (eqb size 2 || eqb size 4)
+
+abbrev pub drawingInRange : Drawing → Bool
+drawingInRange d = leb (d .pixel) noPixel && leb (d .shown) 4
+
 unfoldable pub playerInRange : Player → Bool
-playerInRange p = objectInRange (p .body) && (eqb (p .size) 1 || (eqb (p .size) 2 || eqb (p .size) 4))
+playerInRange p = objectInRange (p .body) && (sizeInRange (p .size) && drawingInRange (p .drawing))
 
 unfoldable pub objectsInRange : Objects → Bool
 objectsInRange os =
@@ -72,12 +80,12 @@ liveAtRest s = eqb (s .timing .slot) 16 && anyLive (s .objects)
 unfoldable pub badState : State → Bool
 badState s = not (inRange s) || liveAtRest s
 
--- The start state has h = 0, ages 64, slot 16, sizes 1 and zero or false elsewhere.
+-- The start state has h = 0, ages 64, slot 16, sizes 1, no pixel shown (document 02, Two), and zero or false elsewhere.
 abbrev pub startObject : Object
 startObject = record { position = 0; age = 64; motion = 0; live = false }
 
 abbrev pub startPlayer : Player
-startPlayer = record { body = startObject; size = 1 }
+startPlayer = record { body = startObject; size = 1; drawing = noDrawing }
 
 abbrev pub startObjects : Objects
 startObjects = record { p0 = startPlayer; p1 = startPlayer; m0 = startObject; m1 = startObject; bl = startObject }

@@ -2,21 +2,15 @@
 ghost use mathlib.Core.Bool.{cond};
 ghost use mathlib.Core.Path.{_≡_};
 ghost use Prim.Native.Nat.{_≤_, _<_};
-ghost use Rattle.tia.specs.Lit.{widthOf, shownBit, playerLit, missileLit, ballLit, columnOf, litOf, litBits, answerByte};
-use crate::choose::bit;
-use crate::choose::byte;
+ghost use Rattle.tia.specs.Lit.{widthOf, missileLit, ballLit, columnOf, litOf, litBits, answerByte};
 use crate::choose::flag;
 use crate::object::Object;
-use crate::object::Player;
 use crate::registers::Enable;
-use crate::registers::Graphic;
 use crate::registers::Registers;
 use crate::state::Objects;
 use crate::timing::BLANK;
 
-// The ages at which a player, and a missile or the ball, light their first column.
-const PLAYER_AGE: u8 = 5;
-
+// The age at which a missile or the ball lights its first column.
 const MISSILE_AGE: u8 = 4;
 
 // The answer bytes of the horizontal blank and of a blank column.
@@ -32,36 +26,6 @@ pub(crate) struct Lit {
     pub(crate) m1: bool,
     pub(crate) bl: bool,
     pub(crate) pf: bool,
-}
-
-impl Player {
-    // Whether the player is lit: at ages 5 to 4 + 8 x size, by a bit of its graphic.
-    fn lit(self, graphic: Graphic) -> bool
-        ensures { λ r. ⌜ r ≡ playerLit graphic self ⌝ }
-    {
-        let body = self.body;
-        let age = body.age;
-        let size = self.size;
-        if age < PLAYER_AGE {
-            return false;
-        }
-        let drawn = age - PLAYER_AGE;
-        if drawn as usize >= 8 * (size as usize) {
-            return false;
-        }
-        graphic.shown(drawn / size)
-    }
-}
-
-impl Graphic {
-    // Whether the graphic shows pixel n, counted from the left.
-    fn shown(self, n: u8) -> bool
-        requires { ⌜ n < 8 ⌝ }
-        ensures { λ r. ⌜ r ≡ shownBit self n ⌝ }
-    {
-        let graphic = byte(self.delayed, self.old, self.new);
-        bit(byte(self.reflected, n, 7 - n), graphic)
-    }
 }
 
 impl Object {
@@ -114,8 +78,8 @@ pub(crate) fn lit_of(h: u8, registers: Registers, objects: Objects) -> Lit
     let nusiz0 = registers.nusiz0;
     let nusiz1 = registers.nusiz1;
     let playfield = registers.playfield;
-    let p0 = objects.p0;
-    let p1 = objects.p1;
+    let p0 = objects.p0.drawing;
+    let p1 = objects.p1.drawing;
     let m0 = objects.m0;
     let m1 = objects.m1;
     let bl = objects.bl;

@@ -5,6 +5,7 @@ ghost use lib.IntN.{pos};
 ghost use Rattle.tia.specs.Object.{reached, older, starts, sizeOf, compareValue, equalSlot, extraPulse, objectWritten, slotPassed, pulsedIf};
 ghost use Rattle.tia.specs.Object.{strobedIf, objectMoved, objectAfter, playerAfter, missileAfter, ballAfter};
 use crate::choose::byte;
+use crate::drawing::Drawing;
 use crate::timing::Tick;
 use crate::write::HMBL;
 use crate::write::HMCLR;
@@ -31,15 +32,17 @@ pub struct Object {
     pub live: bool,
 }
 
-// A player: the object, and the size that it holds for a copy.
+// A player: the object, its copy's size at the start, and the copy's drawing.
 pub struct Player {
     pub body: Object,
     pub size: u8,
+    pub drawing: Drawing,
 }
 
-// An object after a clock, and whether a copy started.
+// An object after a clock, whether it was pulsed, and whether a copy started.
 pub(crate) struct Moved {
     pub(crate) object: Object,
+    pub(crate) pulsed: bool,
     pub(crate) started: bool,
 }
 
@@ -164,11 +167,16 @@ impl Object {
         let visible = !tick.blank;
         let extra = self.extra(tick);
         let start = start_at(copies, next_position(self.position, visible, extra));
-        let started = (visible | extra) & (!strobe & start);
+        let pulsed = visible | extra;
+        let started = pulsed & (!strobe & start);
         let object = self.slot(tick)
             .pulse(visible, extra, started)
             .strobe(strobe);
-        Moved { object, started }
+        Moved {
+            object,
+            pulsed,
+            started,
+        }
     }
 
     // Steps 2 and 4 to 7: the object's part of a clock.
@@ -201,16 +209,21 @@ impl Object {
 }
 
 impl Player {
-    // A player's part of a clock: at a start it takes its size from NUSIZ.
+    // A player's part of a clock: at a start it takes its size from NUSIZ; on a pulse its drawing goes on.
     pub(crate) fn clocked(self, tick: Tick, strobe: u8, hm: u8, copies: u8, write: Write) -> Self
         ensures { λ r. ⌜ r ≡ playerAfter tick strobe hm copies write self ⌝ }
     {
         let body = self.body;
         let moved = body.clocked(tick, strobe, hm, copies, write);
         let object = moved.object;
+        let started = moved.started;
+        let now = size_of(copies);
+        let held = self.size;
+        let drawing = self.drawing;
         Self {
             body: object,
-            size: byte(moved.started, size_of(copies), self.size),
+            size: byte(started, now, held),
+            drawing: drawing.after(moved.pulsed, started, object.age, held, now),
         }
     }
 }

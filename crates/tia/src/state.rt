@@ -3,6 +3,8 @@ ghost use mathlib.Core.Path.{_≡_};
 ghost use Rattle.tia.specs.State.{objectInRange, playerInRange, objectsInRange, anyLive, timingInRange, nusizInRange, registersInRange};
 ghost use Rattle.tia.specs.State.{badState, startObjects, startRegisters, startState};
 use crate::colours::Colours;
+use crate::drawing::Drawing;
+use crate::drawing::NO_PIXEL;
 use crate::latches::Latches;
 use crate::object::LAST_COLUMN;
 use crate::object::NOT_DRAWN;
@@ -83,6 +85,7 @@ fn start_objects() -> Objects
     let player = Player {
         body: object,
         size: 1,
+        drawing: Drawing::none(),
     };
     Objects {
         p0: player,
@@ -152,13 +155,16 @@ impl Object {
 }
 
 impl Player {
-    // Whether the object is in range and the size 1, 2 or 4.
+    // Whether the object is in range, the size 1, 2 or 4, the pixel at most 8 and its clocks shown at most 4.
     fn in_range(self) -> bool
         ensures { λ r. ⌜ r ≡ playerInRange self ⌝ }
     {
         let body = self.body;
         let size = self.size;
-        body.in_range() & ((size == 1) | ((size == 2) | (size == 4)))
+        let pixel = self.drawing.pixel;
+        let shown = self.drawing.shown;
+        let sized = (size == 1) | ((size == 2) | (size == 4));
+        body.in_range() & (sized & ((pixel <= NO_PIXEL) & (shown <= 4)))
     }
 }
 

@@ -8,6 +8,12 @@ use Rattle.clock_bytes.proofs.show_clock.Tie as tie
 shared-bytes-requires : tie.Need-shared-bytes-requires
 shared-bytes-requires c κs = search needs
 
+player-bytes-requires : tie.Need-player-bytes-requires
+player-bytes-requires c κs = search needs
+
+player-bytes-requires-2 : tie.Need-player-bytes-requires-2
+player-bytes-requires-2 c κs = search needs
+
 object-bytes-requires : tie.Need-object-bytes-requires
 object-bytes-requires c κs = search needs
 
@@ -16,12 +22,6 @@ object-bytes-requires-2 c κs = search needs
 
 object-bytes-requires-3 : tie.Need-object-bytes-requires-3
 object-bytes-requires-3 c κs = search needs
-
-object-bytes-requires-4 : tie.Need-object-bytes-requires-4
-object-bytes-requires-4 c κs = search needs
-
-object-bytes-requires-5 : tie.Need-object-bytes-requires-5
-object-bytes-requires-5 c κs = search needs
 
 slice-aggregate-emit : tie.Need-slice-aggregate-emit
 slice-aggregate-emit c = search needs
@@ -50,11 +50,11 @@ emit-requires c κs =
     _
     _
     (p0 .before .shared-bytes .ensures)
-    (p0 .object-bytes .ensures)
-    (bl .before .before .before .object-bytes2 .ensures)
-    (bl .before .before .object-bytes3 .ensures)
-    (bl .before .object-bytes4 .ensures)
-    (bl .object-bytes5 .ensures)
+    (p0 .player-bytes .ensures)
+    (bl .before .before .before .player-bytes2 .ensures)
+    (bl .before .before .object-bytes .ensures)
+    (bl .before .object-bytes2 .ensures)
+    (bl .object-bytes3 .ensures)
     ∙ start .pre
 
 returns : tie.Need-returns
@@ -65,11 +65,11 @@ show-clock-spec =
     tie.close
     (tie.spec
     shared-bytes-requires
+    player-bytes-requires
+    player-bytes-requires-2
     object-bytes-requires
     object-bytes-requires-2
     object-bytes-requires-3
-    object-bytes-requires-4
-    object-bytes-requires-5
     slice-aggregate-emit
     slice-aggregate-emit-2
     slice-aggregate-emit-3

@@ -6,10 +6,11 @@ use Rattle.tia.proofs.object.Player.clocked.Tie as tie
 returns : tie.Need-returns
 unfolding playerAfter
 returns c = rw (
-  c .byte .ensures,
-  c .before .size-of .ensures,
-  c .before .before .before .clocked .ensures,
+  c .after .ensures,
+  c .before .byte .ensures,
+  c .before .before .before .size-of .ensures,
+  c .before .before .before .before .before .clocked .ensures,
 )
 
 pub clocked-spec : {M : Type 1} → statement M
-clocked-spec = tie.close (tie.spec (λ c κs. tt) (λ c κs. tt) (λ c κs. tt) returns)
+clocked-spec = tie.close (tie.spec (λ c κs. tt) (λ c κs. tt) (λ c κs. tt) (λ c κs. tt) returns)
