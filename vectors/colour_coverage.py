@@ -4,9 +4,7 @@ A thing is `seen` in a column that would have another colour without it."""
 from colour_rule import (
     BALL,
     BY_LETTER,
-    COLOUR_REGISTERS,
     HALF,
-    READ,
     SCORE,
     colour_in,
     colour_shown,
@@ -14,6 +12,7 @@ from colour_rule import (
     of_half,
     register_shown,
 )
+from columns import COLOUR_REGISTERS, READ
 from classroom.lines import OBJECTS, UNSHOWN, lit
 from scenes import BITS, PRIORITY, colour, order_by
 
@@ -23,7 +22,20 @@ BITS_2_AND_1 = ("neither", "bit 1 alone", "bit 2 alone", "both")  # by their val
 UNDER_BIT_2 = "bit 1 under bit 2"
 SEEN_BITS = ("bit 2 clear", "bit 2 set", "bit 1 clear", "bit 1 set", UNDER_BIT_2)
 OVER_SCORE = {"P": "P0 or M0 over PF on the right", "Q": "P1 or M1 over PF on the left", "B": "BL over PF"}
+LATE_BLANK = range(8)  # the columns that an HMOVE in the blank can blank
+BLANKS = ("in columns 0-7", "in others", "over the playfield", "seen")
 SCORES = ("COLUP0 on the left", "in column 79", "in column 80", "COLUP1 on the right", *OVER_SCORE.values())
+
+
+def blanks(columns):
+    """Where blanked columns are, whether PF0 would light one, and whether one is seen: no register has colour 00."""
+    names = []
+    for column in (column for column in columns if column.byte & UNSHOWN):
+        late = column.number in LATE_BLANK
+        names.append("in columns 0-7" if late else "in others")
+        names += ["over the playfield"] * (late and column.held["PF0"] >> 4 + column.number // 4 & 1)
+        names += ["seen"] * all(colour_in(column.held, name) for name in COLOUR_REGISTERS)
+    return names
 
 
 def bits_2_and_1(columns):
@@ -98,18 +110,24 @@ def odd_shown(columns):
 
 def rewritten(columns):
     """The registers that get another value on a column's clock."""
-    return [name for column in columns for name in READ if column.held[name] != column.before[name]]
+    return [name for column in columns for name in changed(column)]
 
 
 def late_seen(columns):
     """The registers rewritten so that a write one clock later would give that column another colour."""
-    return [name for at in columns for name in READ if colour_shown(at, **{name: at.before[name]}) != colour_shown(at)]
+    pairs = [(at, name) for at in columns for name in changed(at)]
+    return [name for at, name in pairs if colour_shown(at, **{name: at.before[name]}) != colour_shown(at)]
 
 
 def early_seen(columns):
     """The registers rewritten so that a write one clock earlier would give the column before another colour."""
-    pairs = list(zip(columns, columns[1:]))
-    return [name for at, after in pairs for name in READ if colour_shown(at, **{name: after.held[name]}) != colour_shown(at)]
+    pairs = [(at, after.held, name) for at, after in zip(columns, columns[1:]) for name in changed(after)]
+    return [name for at, held, name in pairs if colour_shown(at, **{name: held[name]}) != colour_shown(at)]
+
+
+def changed(column):
+    """The registers that have another value in a column than at the clock before."""
+    return [] if column.held is column.before else [name for name in READ if column.held[name] != column.before[name]]
 
 
 def shown_first(column):
@@ -124,6 +142,7 @@ def unlike(column, name, *others):
 
 # The rows on colour: title, the names counted, and what finds them in the columns of a last line.
 COLOUR_ROWS = (
+    ("blanked columns", BLANKS, blanks),
     ("CTRLPF bits 2 and 1 in the last line", BITS_2_AND_1, bits_2_and_1),
     ("CTRLPF bits seen", SEEN_BITS, seen_bits),
     ("score seen", SCORES, scores),

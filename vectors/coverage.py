@@ -1,10 +1,11 @@
 """What the scenes cover, as rows of counts: what the last lines light, the emulator latched and the tapes write, and what
-is seen of the colours."""
+is seen of the colours and of the players' sizes."""
 
 from colour_coverage import COLOUR_ROWS
-from colour_rule import columns_of
+from columns import columns_of
+from size_coverage import SIZE_ROWS
 from classroom.lines import BLANK, LATCHES, OBJECTS, lit, met
-from classroom.registers import REGISTERS
+from classroom.registers import NAMES, REGISTERS
 from scenes import PICTURES, PLAYERS_FIRST, PLAYFIELD_FIRST, colour_order, drawn
 
 PAIRS = [pair for pairs in LATCHES for pair in pairs]
@@ -42,11 +43,14 @@ def coverage(kind, scenes, last_lines):
     return [
         counts("last line lights", OBJECTS, map(lighting, last_lines)),
         counts("last line has", ("overlaps", "blanked columns"), map(overlaps_and_blanks, last_lines)),
+        counts("last line lights beside blanked columns", OBJECTS, map(lighting_beside_blanks, last_lines)),
         counts("last line has together", PAIRS, map(together, last_lines)),
         counts("emulator latched", ("any", *PAIRS), map(latched, scenes)),
         *(picture_rows if kind == PICTURES else colour_rows)(scenes, last_lines),
-        counts("HMOVE at clock", CLOCKS, (clocks(scene, "HMOVE") for scene in scenes)),
-        counts("position strobe at clock", CLOCKS, (clocks(scene, *STROBES) for scene in scenes)),
+        counts("HMOVE at clock", CLOCKS, (clocks(scene.lines, "HMOVE") for scene in scenes)),
+        counts("HMOVE at clock of the last line", CLOCKS, (clocks(scene.lines[-1:], "HMOVE") for scene in scenes)),
+        counts("CXCLR at clock of the last line", CLOCKS, (clocks(scene.lines[-1:], "CXCLR") for scene in scenes)),
+        counts("position strobe at clock", CLOCKS, (clocks(scene.lines, *STROBES) for scene in scenes)),
         *fields,
         "registers not written: " + (", ".join(unwritten(scenes)) or "none"),
     ]
@@ -58,9 +62,9 @@ def picture_rows(scenes, last_lines):
 
 
 def colour_rows(scenes, last_lines):
-    """The rows on the colours of scenes that have them."""
+    """The rows on the colours, and on the players' sizes, of scenes with colours."""
     lines = list(map(columns_of, scenes, last_lines))
-    return [counts(title, names, map(found, lines)) for title, names, found in COLOUR_ROWS]
+    return [counts(title, names, map(found, lines)) for title, names, found in (*COLOUR_ROWS, *SIZE_ROWS)]
 
 
 def counts(title, names, found):
@@ -72,6 +76,11 @@ def counts(title, names, found):
 def lighting(line):
     """The objects that a line lights."""
     return [name for byte in set(line) for name in lit(byte)]
+
+
+def lighting_beside_blanks(line):
+    """The objects that a line lights which has blanked columns."""
+    return lighting(line) if BLANKED in line else []
 
 
 def together(line):
@@ -97,9 +106,10 @@ def bit_2(scene, line):
     return [name, f"{name} and seen"] if seen else [name]
 
 
-def clocks(scene, *names):
-    """The ranges of clocks in which a scene writes to these registers."""
-    return [CLOCKS[(clock > 15) + (clock >= BLANK)] for name in names for clock, _ in scene.writes(name)]
+def clocks(lines, *names):
+    """The ranges of clocks in which lines write to these registers."""
+    found = [clock for writes in lines for clock, address, _ in writes if NAMES.get(address) in names]
+    return [CLOCKS[(clock > 15) + (clock >= BLANK)] for clock in found]
 
 
 def values(scene, name, bit, size):

@@ -2,6 +2,7 @@
 
 import re
 import sys
+from functools import lru_cache
 from pathlib import Path
 from typing import NamedTuple
 
@@ -43,6 +44,9 @@ FILES = {
     "emulator_scenes.txt": Stored(150, PICTURES),
     "colours.txt": Stored(150, COLOURS),
     "colours_mid.txt": Stored(75, COLOURS),
+    "sizes.txt": Stored(150, COLOURS),
+    "comb.txt": Stored(75, COLOURS),
+    "resize.txt": Stored(75, COLOURS),
 }
 
 
@@ -112,6 +116,7 @@ def drawn(line, order):
     return "".join(colour(byte, order) for byte in line)
 
 
+@lru_cache(maxsize=None)
 def colour(byte, order):
     """The first letter of the order that an object byte has; `.` where nothing is lit or the column is blanked."""
     if byte & UNSHOWN:

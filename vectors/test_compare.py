@@ -1,6 +1,7 @@
 """Tests of the comparison with the emulator's scenes; needs target/bin/line_bytes and target/bin/listing.
 Run: python3 vectors/test_compare.py"""
 
+import re
 import subprocess
 import sys
 import tempfile
@@ -11,7 +12,10 @@ sys.dont_write_bytecode = True
 
 from scenes import COLOURS, FILES, FOLDER, PICTURES, PLAYERS_FIRST, PLAYFIELD_FIRST
 from scenes import colour, colour_order, drawn, scene_in, scenes_in, shown_by
-from colour_rule import COLOUR_REGISTERS, Column, colour_shown, columns_of, register_shown, registers_at_clocks
+from columns import COLOUR_REGISTERS, READ, Column, columns_of, registers_at_clocks
+from colour_rule import colour_shown, register_shown
+from size_coverage import moved_seen
+from size_rule import ONE_COPY, copies_in, is_resized, is_set, lit_by, lit_columns, pixels_shown, sizes_read, starts
 from coverage import coverage
 from classroom.lines import Line, lines_of
 from classroom.registers import REGISTERS
@@ -24,6 +28,8 @@ COLOUR_FILES = [name for name, stored in FILES.items() if stored.kind == COLOURS
 EMPTY = {PICTURES: "." * 160, COLOURS: "00" * 160}
 LATCHES = "cx 00 00 00 00 00 00 00 00"
 LATER, EARLIER = (f"rewritten, one clock {when} would be seen" for when in ("later", "earlier"))
+PLAYER_BITS = {"P0": 1, "P1": 2}
+NUSIZ = (0x04, 0x05)
 
 
 def row_of(*lines, shown=EMPTY[PICTURES], latches=LATCHES):
@@ -73,6 +79,22 @@ def with_odd_colours(scene):
     colours = [REGISTERS[name].address for name in COLOUR_REGISTERS]
     lines = [[(clock, address, value ^ (address in colours)) for clock, address, value in writes] for writes in scene.lines]
     return pack(1, lines).hex().upper()
+
+
+def with_copies(scene, changed):
+    """A scene's tape in hexadecimal, with the copies in every value of NUSIZ changed as this says."""
+
+    def written(clock, address, value):
+        copies = value & 7
+        return clock, address, value - copies + changed.get(copies, copies) if address in NUSIZ else value
+
+    return pack(1, [[written(*write) for write in writes] for writes in scene.lines]).hex().upper()
+
+
+def with_last_line(scene, change):
+    """A scene's tape in hexadecimal, with every write of the last line changed, or left out where change gives none."""
+    last = [write for write in map(change, scene.lines[-1]) if write]
+    return pack(1, [*scene.lines[:-1], last]).hex().upper()
 
 
 class Letters(unittest.TestCase):
@@ -133,9 +155,18 @@ class ColourRule(unittest.TestCase):
     def test_registers_at_their_clocks(self):
         clocks = registers_at_clocks([[(0, 6, 0x12), (9, 8, 0x56), (227, 9, 0x78)], [(3, 8, 0x9A), (80, 0x1B, 5), (81, 9, 1)]])
         self.assertEqual(len(clocks), 228)
-        self.assertEqual(clocks[2], {"CTRLPF": 0, "COLUP0": 0x12, "COLUP1": 0, "COLUPF": 0x56, "COLUBK": 0x78})
+        read = {name: clocks[2][name] for name in READ}
+        self.assertEqual(read, {"CTRLPF": 0, "COLUP0": 0x12, "COLUP1": 0, "COLUPF": 0x56, "COLUBK": 0x78})
         self.assertEqual([clocks[clock]["COLUPF"] for clock in (0, 2, 3, 227)], [0x56, 0x56, 0x9A, 0x9A])
         self.assertEqual([clocks[clock]["COLUBK"] for clock in (80, 81, 227)], [0x78, 1, 1])
+
+    def test_old_graphics(self):
+        names = "GRP0", "old GRP0", "GRP1", "old GRP1"
+        writes = [(0, 0x1B, 1), (1, 0x1C, 2), (2, 0x1B, 3), (3, 0x1B, 4), (4, 0x1C, 5), (5, 0x1D, 6), (6, 0x1C, 7)]
+        held = [[clock[name] for name in names] for clock in registers_at_clocks([writes])]
+        wanted = [[1, 0, 0, 0], [1, 1, 2, 0], [3, 1, 2, 2], [4, 1, 2, 2], [4, 4, 5, 2], [4, 4, 5, 2], [4, 4, 7, 2]]
+        self.assertEqual(held[:8], [*wanted, wanted[-1]])
+        self.assertEqual([registers_at_clocks([writes[:end], []])[0][names[1]] for end in (1, 2, 5)], [0, 1, 4])
 
     def test_columns(self):
         scene = scene_of(COLOURS, "", "", "", "", "", "440922450806")
@@ -164,7 +195,7 @@ class Scenes(unittest.TestCase):
             self.assertEqual(scene.writes("GRP0"), [(3, 0x55)])
 
     def test_so_many(self):
-        self.assertEqual([stored.count for stored in FILES.values()], [150, 150, 75])
+        self.assertEqual([stored.count for stored in FILES.values()], [150, 150, 75, 150, 75, 75])
         for file, rows in ROWS.items():
             scenes = scenes_in(file, text_of(rows))
             self.assertEqual([scene.name for scene in scenes], [f"scene {n} of {file}" for n in range(1, len(rows) + 1)])
@@ -233,11 +264,27 @@ class Coverage(unittest.TestCase):
                 "CTRLPF bit 0, reflect: 0 1, 1 1",
             ):
                 self.assertIn(row, rows)
-            self.assertTrue(rows[2].startswith("last line has together: M0-P1 1, M0-P0 0,"))
-            self.assertTrue(rows[3].startswith("emulator latched: any 1, M0-P1 1, M0-P0 0,"))
+            self.assertTrue(rows[3].startswith("last line has together: M0-P1 1, M0-P0 0,"))
+            self.assertTrue(rows[4].startswith("emulator latched: any 1, M0-P1 1, M0-P0 0,"))
             self.assertTrue(rows[-1].startswith("registers not written: NUSIZ0, NUSIZ1, COLUP0, COLUP1, COLUPF,"))
             self.assertNotIn("HMCLR", rows[-1])
             self.assertEqual("CTRLPF bit 2: clear 1, set 1, clear and seen 0, set and seen 0" in rows, kind == PICTURES)
+
+    def test_lit_beside_blanked_columns(self):
+        for kind in EMPTY:
+            scenes = [scene_of(kind, "000A00", "", "", "", "", "")] * 4
+            lines = [bytes([64] * 8 + [byte] * 152) for byte in (1, 24)] + [bytes([38] * 160), bytes([64] * 160)]
+            rows = coverage(kind, scenes, lines)
+            self.assertIn("last line lights beside blanked columns: P0 1, P1 0, M0 0, M1 1, BL 1, PF 0", rows)
+
+    def test_clocks_of_the_last_line(self):
+        pairs = ("0F2A00", "002C00"), ("002C00", "0E2A00102C00"), ("", "0F2C00102A00"), ("", "442C00"), ("", "E32A00")
+        scenes = [scene_of(COLOURS, "000A00", "", "", "", *pair) for pair in pairs]
+        for kind in EMPTY:
+            rows = coverage(kind, scenes, [bytes(160)] * 5)
+            self.assertIn("HMOVE at clock: 0-15 2, 16-67 1, 68-227 1", rows)
+            self.assertIn("HMOVE at clock of the last line: 0-15 1, 16-67 1, 68-227 1", rows)
+            self.assertIn("CXCLR at clock of the last line: 0-15 2, 16-67 1, 68-227 1", rows)
 
     def test_seen(self):
         scenes = [scene_of(PICTURES, f"000A0{value}", "", "", "", "", "") for value in (0, 0, 0, 4, 4)]
@@ -245,7 +292,9 @@ class Coverage(unittest.TestCase):
         self.assertIn("CTRLPF bit 2: clear 3, set 2, clear and seen 2, set and seen 1", coverage(PICTURES, scenes, lines))
 
 
-class ColourCoverage(unittest.TestCase):
+class RowsOnColumns(unittest.TestCase):
+    """What the tests of rows on the columns of last lines share."""
+
     colours = "000620030740060860090980"  # COLUP0, COLUP1, COLUPF and COLUBK unlike each other
 
     def rows(self, *scenes):
@@ -260,9 +309,30 @@ class ColourCoverage(unittest.TestCase):
 
     def found(self, title, *scene):
         """The names that a row counts for a scene."""
-        counted = [count.rsplit(" ", 1) for count in self.rows(scene)[title].split(", ")]
-        self.assertLessEqual({number for _, number in counted}, {"0", "1"})
-        return [name for name, number in counted if number == "1"]
+        return self.counted(self.rows(scene)[title])
+
+    def counted(self, counts):
+        """The names that are counted in the counts of a row for one scene."""
+        pairs = [count.rsplit(" ", 1) for count in counts.split(", ")]
+        self.assertLessEqual({number for _, number in pairs}, {"0", "1"})
+        return [name for name, number in pairs if number == "1"]
+
+
+class ColourCoverage(RowsOnColumns):
+    def test_blanked_columns(self):
+        late = dict.fromkeys(range(8), 64)
+        for bytes_at, first, names in (
+            ({}, "0F0DF0", []),
+            (late, "", ["in columns 0-7", "seen"]),
+            ({7: 64}, "0F0DD0", ["in columns 0-7", "seen"]),
+            ({7: 64}, "0F0D20", ["in columns 0-7", "over the playfield", "seen"]),
+            ({3: 64}, "0F0DE0", ["in columns 0-7", "seen"]),
+            ({3: 64}, "0F0D10", ["in columns 0-7", "over the playfield", "seen"]),
+            ({8: 64}, "0F0DF0", ["in others", "seen"]),
+            ({0: 64, 159: 64}, "", ["in columns 0-7", "in others", "seen"]),
+            *((late, f"0F{address:02X}01", ["in columns 0-7"]) for address in (6, 7, 8, 9)),
+        ):
+            self.assertEqual(self.found("blanked columns", 0, bytes_at, first), names, (bytes_at, first))
 
     def test_counted_over_scenes(self):
         title = "CTRLPF bits 2 and 1 in the last line"
@@ -405,6 +475,173 @@ class ColourCoverage(unittest.TestCase):
             self.assertEqual(self.found(title, 0, dict.fromkeys(range(160), 1), "", "C80622"), ["COLUP0"])
 
 
+class SizeRule(unittest.TestCase):
+    def test_pixels_at_rest(self):
+        for size, first in ((1, 5), (2, 6), (4, 6)):
+            for start in range(160):
+                pixels = {(start + first + at) % 160: at // size for at in range(8 * size)}
+                self.assertEqual(pixels_shown(start, [size] * 161), pixels)
+
+    def test_pixels_set(self):
+        for graphic in range(256):
+            held = dict.fromkeys(("REFP0", "REFP1", "VDELP0", "VDELP1", "GRP0", "GRP1", "old GRP0", "old GRP1"), 0)
+            for player in "01":
+                for delayed, name in ((0xFE, "GRP"), (0x01, "old GRP")):
+                    for reflected, order in ((0xF7, -1), (0x08, 1)):
+                        changed = {f"VDELP{player}": delayed, f"REFP{player}": reflected, f"{name}{player}": graphic}
+                        found = [is_set({**held, **changed}, f"P{player}", pixel) for pixel in range(8)]
+                        self.assertEqual(found, [bool(graphic >> bit & 1) for bit in range(8)][::order])
+
+    def test_read_before_the_first_column(self):
+        columns = columns_of(scene_of(COLOURS, "000405", "", "", "", "", "440407"), bytes(160))
+        self.assertEqual(sizes_read(columns, "P0"), [4] * 160 + [2])
+        self.assertEqual(sizes_read(columns, "P1"), [1] * 161)
+
+
+class SizeCoverage(RowsOnColumns):
+    # A size rewritten so many columns after a copy's first: old, new, columns, the columns that each pixel then has,
+    # and whether the write a clock later, and earlier, gives others.
+    changes = (
+        (1, 2, 0, [2] * 8, False, False),
+        (1, 2, 2, [1] + [2] * 7, True, True),
+        (1, 4, 7, [1] * 6 + [4] * 2, True, True),
+        (2, 1, 1, [1] * 8, True, False),
+        (2, 1, 2, [2] + [1] * 7, False, True),
+        (2, 4, 2, [4] * 8, True, False),
+        (2, 4, 3, [2] + [4] * 7, False, True),
+        (4, 1, 2, [2] + [1] * 7, True, True),
+        (4, 1, 31, [4] * 7 + [3], True, True),
+        (4, 2, 5, [4] + [2] * 7, False, False),
+        (4, 2, 7, [4, 3] + [2] * 6, True, True),
+    )
+    copies = {1: 0, 2: 5, 4: 7}
+    words = {1: "single", 2: "double", 4: "quadruple"}
+    titles = ("resized, one clock later would be seen", "resized, one clock earlier would be seen")
+
+    def line(self, player, first, widths, graphic=0b11010011):
+        """The object bytes by column of a copy from its first column on with pixels so wide."""
+        pixels = [pixel for pixel, width in enumerate(widths) for _ in range(width)]
+        bit = PLAYER_BITS[player]
+        return {first + at: bit for at, pixel in enumerate(pixels) if graphic >> 7 - pixel & 1 and first + at < 160}
+
+    def writes(self, player, old, new, column, how="0F{grp:02X}D3"):
+        """The writes of the first line and of the last: the graphic, a size, and the size rewritten in a column."""
+        number = int(player[1])
+        first = how.format(grp=0x1B + number, other=0x1C - number, refp=0x0B + number, vdelp=0x25 + number)
+        nusiz = f"{4 + number:02X}"
+        return f"{first}40{nusiz}{self.copies[old]:02X}", f"{68 + column:02X}{nusiz}3{self.copies[new]}"
+
+    def test_lit_sizes(self):
+        for player, bit in PLAYER_BITS.items():
+            number = int(player[1])
+            for copies in range(8):
+                word = {5: "double", 7: "quadruple"}.get(copies, "single")
+                nusiz = f"10{4 + number:02X}{0xC8 + copies:02X}"
+                reflected, delayed = f"11{0x0B + number:02X}08", f"12{0x25 + number:02X}01"
+                for more, how in (("", []), (reflected, ["reflected"]), (delayed, ["delayed"])):
+                    names = [word, *(f"{word} and {one}" for one in how)]
+                    self.assertEqual(self.found(f"lit {player} is", 0, {9: bit}, nusiz + more), names)
+                    self.assertEqual(self.found(f"lit {player} is", 0, {9: 62 - bit + 1, 10: 64}, nusiz + more), [])
+            last = f"50{4 + number:02X}05"
+            self.assertEqual(self.found(f"lit {player} is", 0, {11: bit, 12: bit}, "", last), ["single", "double"])
+
+    def test_lit_runs(self):
+        for player, bit in PLAYER_BITS.items():
+            nusiz = f"{4 + int(player[1]):02X}"
+            for size, copies in ((2, "05"), (4, "07")):
+                title = f"columns of a lit run of {self.words[size]} {player}"
+                for runs, counted in (
+                    ([(1, size)], [size]),
+                    ([(9, 3 * size)], [3 * size]),
+                    ([(9, 8 * size), (100, size)], [size, 8 * size]),
+                    ([(9, size + 1), (100, 9 * size)], []),
+                    ([(0, size)], []),
+                    ([(160 - size, size)], []),
+                    ([(159 - size, size)], [size]),
+                ):
+                    bytes_at = {first + at: bit for first, length in runs for at in range(length)}
+                    self.assertEqual(self.found(title, 0, bytes_at, f"10{nusiz}{copies}"), list(map(str, counted)))
+                bytes_at = {20 + at: bit for at in range(size)}
+                self.assertEqual(self.found(title, 0, bytes_at, f"10{nusiz}00"), [])
+                self.assertEqual(self.found(title, 0, {**bytes_at, 19: 64}, f"10{nusiz}{copies}"), [])
+                self.assertEqual(self.found(title, 0, bytes_at, f"10{nusiz}{copies}", f"90{nusiz}00"), [])
+                other = {at: 3 - bit for at in bytes_at}
+                self.assertEqual(self.found(title, 0, other, f"10{nusiz}{copies}"), [])
+
+    def resized(self, player, bytes_at, first, last):
+        """What is counted of a player's resizing: changes, places, and whether a write later, and earlier, is seen."""
+        rows = self.rows((0, bytes_at, first, last))
+        changes, places = (self.counted(rows[f"{player} resized {how}"]) for how in ("while drawn", "in its pixel"))
+        return changes, places, *(player in self.counted(rows[title]) for title in self.titles)
+
+    def test_each_change(self):
+        ways = (
+            "0F{grp:02X}D3",
+            "0F{grp:02X}CB10{refp:02X}08",
+            "0F{grp:02X}D310{other:02X}FF11{grp:02X}2412{vdelp:02X}01",
+        )
+        for player in PLAYER_BITS:
+            for old, new, columns, widths, later, earlier in self.changes:
+                change = [f"{self.words[old]} to {self.words[new]}"]
+                place = [{0: "first", 7: "last"}.get(columns // old, "another")]
+                for first in (10, 90):
+                    bytes_at = self.line(player, first, widths)
+                    for how in ways:
+                        writes = self.writes(player, old, new, first + columns, how)
+                        found = self.resized(player, bytes_at, *writes)
+                        self.assertEqual(found, (change, place, later, earlier), (player, old, new, columns, how))
+                    other = "P1" if player == "P0" else "P0"
+                    self.assertEqual(self.resized(other, bytes_at, *writes), ([], [], False, False))
+
+    def test_not_seen_in_like_colours(self):
+        for player in PLAYER_BITS:
+            for old, new, columns, widths, _, _ in self.changes:
+                first, last = self.writes(player, old, new, 20 + columns)
+                like = f"{first}410{6 + int(player[1])}81"
+                changes, places, *seen = self.resized(player, self.line(player, 20, widths), like, last)
+                self.assertEqual((len(changes), len(places), seen), (1, 1, [False, False]))
+
+    def test_across_the_edge(self):
+        for player, bit in PLAYER_BITS.items():
+            graphic, write = 0b11010111, "0F{grp:02X}D7"
+            single, cut = (self.line(player, *copy, graphic) for copy in ((149, [1] * 8), (150, [2] + [1] * 7)))
+            change = ["double to single"]
+            for rest in (dict.fromkeys(range(6), bit), dict.fromkeys(range(8), 64)):
+                found = self.resized(player, {**rest, **cut}, *self.writes(player, 2, 1, 152, write))
+                self.assertEqual(found, (change, ["another"], False, True))
+            for column, end, place in ((0, 3, "another"), (1, 3, "another"), (2, 4, "another"), (4, 5, "last")):
+                line = {**dict.fromkeys(range(end), bit), **single}
+                found = self.resized(player, line, *self.writes(player, 2, 1, column, write))
+                self.assertEqual(found[:2], (change, [place]))
+
+    def test_more_copies_before_column_0(self):
+        for player, bit in PLAYER_BITS.items():
+            line = dict.fromkeys((1, 2, 3, 4, 5, 6, 156, 157, 158, 159), bit)
+            first, last = self.writes(player, 1, 2, 0, "0F{grp:02X}D7")
+            self.assertEqual(self.resized(player, line, first, last)[0], ["single to double"])
+            self.assertEqual(self.resized(player, line, first[:-1] + "3", last)[0], [])
+
+    def test_place_not_told(self):
+        for player in PLAYER_BITS:
+            bytes_at = self.line(player, 50, [2] + [1] * 7, 0b00000001)
+            writes = self.writes(player, 4, 1, 52, "0F{grp:02X}01")
+            self.assertEqual(self.resized(player, bytes_at, *writes), (["quadruple to single"], [], False, False))
+
+    def test_not_resized_while_drawn(self):
+        for player, bit in PLAYER_BITS.items():
+            none = ([], [], False, False)
+            for old, new, column in ((1, 2, 8), (1, 4, 9), (2, 1, 16), (2, 4, 17), (4, 1, 32), (4, 2, 39), (2, 1, -1)):
+                line = self.line(player, 50, [old if column > 0 else new] * 8)
+                self.assertEqual(self.resized(player, line, *self.writes(player, old, new, 50 + column)), none)
+            first, last = self.writes(player, 2, 1, 52)
+            line = self.line(player, 50, [2] + [1] * 7)
+            self.assertNotEqual(self.resized(player, line, first, last), none)
+            for wrong in ({}, {**line, 54: 0}, {**line, 140: bit}):
+                self.assertEqual(self.resized(player, wrong, first, last), none)
+            self.assertEqual(self.resized(player, line, first, last[:-1] + "1"), none)
+            self.assertEqual(self.resized(player, line, first, last[:-1] + "5"), none)
+
+
 class Compare(unittest.TestCase):
     @classmethod
     def setUpClass(cls):
@@ -449,8 +686,8 @@ class Compare(unittest.TestCase):
             programs = (str(PROJECT / program) for program in PROGRAMS)
             status, output, errors = self.run_compare(*programs, folder=folder)
         self.assertEqual((status, errors), (0, ""))
-        self.assertEqual(output[-1], "375 of 375 scenes agree with the emulator")
-        agree = "150 of 150", "150 of 150", "75 of 75"
+        self.assertEqual(output[-1], "675 of 675 scenes agree with the emulator")
+        agree = "150 of 150", "150 of 150", "75 of 75", "150 of 150", "75 of 75", "75 of 75"
         heads = [f"{file}: {count} scenes agree with the emulator; they cover:" for file, count in zip(FILES, agree)]
         self.assertEqual([row for row in output if row in heads], heads)
 
@@ -514,6 +751,11 @@ class Compare(unittest.TestCase):
                 at = output.index(f"scene {number} of {file}: the latches differ")
                 self.assertEqual(output[at + 2], "  program  " + row.split(" ", 2)[2])
 
+    def differing(self, output, file, what):
+        """The numbers of the scenes of a file of which an output says that this differs."""
+        found = (re.match(rf"scene (\d+) of {file}: the {what} differ", row) for row in output)
+        return {int(match[1]) for match in found if match}
+
     def tapes_changed(self, file, change):
         """The rows of a file's scenes, each with the tape that change gives for it."""
         scenes = scenes_in(file, text_of(ROWS[file]))
@@ -523,7 +765,9 @@ class Compare(unittest.TestCase):
         for file, rows in ROWS.items():
             wrong = self.tapes_changed(file, lambda scene: with_value_flipped(scene, "PF1", 0x01))
             output = self.assert_differs(0, file, wrong)
-            self.assertEqual(sum(f"the {FILES[file].kind.name} differ" in row for row in output), len(rows))
+            same = set(range(1, len(rows) + 1)) - self.differing(output, file, FILES[file].kind.name)
+            # There COLUPF and COLUBK have one colour, and only the latches tell.
+            self.assertEqual(same, {68} if file == "comb.txt" else set())
 
     def test_a_changed_background_in_every_tape(self):
         def changed(scene):
@@ -535,6 +779,39 @@ class Compare(unittest.TestCase):
             output = self.assert_differs(0, file, self.tapes_changed(file, changed))
             self.assertEqual(sum("the colours differ" in row for row in output), len(ROWS[file]))
             self.assertFalse(any("the latches differ" in row for row in output))
+
+    def test_other_sizes_in_every_tape(self):
+        file = "sizes.txt"
+        self.assert_differs(0, file, self.tapes_changed(file, lambda scene: with_copies(scene, {5: 7, 7: 5})))
+        output = self.assert_differs(2, file, self.tapes_changed(file, lambda scene: with_copies(scene, {5: 0, 7: 0})))
+        # Two have their only stretched player, as the single one, under the playfield.
+        same = set(range(1, 151)) - self.differing(output, file, "colours")
+        self.assertEqual(same, {95, 131})
+
+    def test_a_resizing_moved_by_a_clock(self):
+        file = "resize.txt"
+        scenes = scenes_in(file, text_of(ROWS[file]))
+        for clocks, unlike in ((1, 38), (-1, 48)):
+            def moved(write):
+                clock, address, value = write
+                return (clock + clocks if address in NUSIZ else clock, address, value)
+
+            wrong = self.tapes_changed(file, lambda scene: with_last_line(scene, moved))
+            output = self.assert_differs(75 - unlike, file, wrong)
+            lines = (columns_of(scene, self.last_line(scene).objects) for scene in scenes)
+            seen = {number for number, columns in enumerate(lines, start=1) if moved_seen(clocks > 0, columns)}
+            self.assertGreater(len(seen), unlike // 2)
+            self.assertLessEqual(seen, self.differing(output, file, "colours"))
+
+    def test_the_last_line_without_its_strobes(self):
+        file = "comb.txt"
+        for address, agreeing, what, unlike in ((0x2A, 0, "colours", 75), (0x2C, 40, "latches", 35)):
+            def kept(write):
+                return write if write[1] != address else None
+
+            wrong = self.tapes_changed(file, lambda scene: with_last_line(scene, kept))
+            output = self.assert_differs(agreeing, file, wrong)
+            self.assertEqual(len(self.differing(output, file, what)), unlike)
 
     def test_bit_0_of_a_colour_changes_nothing(self):
         for file in COLOUR_FILES:
@@ -549,6 +826,39 @@ class Compare(unittest.TestCase):
             for scene in scenes_in(file, text_of(ROWS[file])):
                 columns = columns_of(scene, self.last_line(scene).objects)
                 self.assertEqual(bytes(map(colour_shown, columns)).hex().upper(), scene.shown, scene.name)
+
+    def test_the_rule_of_sizes_is_the_emulators(self):
+        for file, players in (("sizes.txt", 199), ("resize.txt", 150)):
+            found = 0
+            for scene in scenes_in(file, text_of(ROWS[file])):
+                columns = columns_of(scene, self.last_line(scene).objects)
+                for player in PLAYER_BITS:
+                    if all(copies_in(column.held, player) in ONE_COPY for column in columns):
+                        found += 1
+                        sizes, lit_now = sizes_read(columns, player), lit_columns(columns, player)
+                        lines = (lit_by(columns, player, pixels_shown(start, sizes)) for start in range(160))
+                        self.assertIn(lit_now, lines, (scene.name, player))
+            self.assertEqual(found, players)
+
+    def test_the_condition_under_which_resized_players_agree(self):
+        agree = {
+            (1, 2): lambda k: k >= 9 or k >= 2 and k % 2 == 0,
+            (1, 4): lambda k: k >= 9 or k in (2, 6),
+            (2, 4): lambda k: k == 0 or k % 4 in (1, 2),
+            (4, 2): lambda k: k % 4 != 3,
+        }
+        found = []
+        for scene in scenes_in("resize.txt", text_of(ROWS["resize.txt"])):
+            columns = columns_of(scene, self.last_line(scene).objects)
+            for player in PLAYER_BITS:
+                sizes = sizes_read(columns, player)
+                for at in (column.number for column in columns if is_resized(column, player)):
+                    old, new = sizes[at - 1], sizes[at]
+                    begun = [start + (5 if old == 1 else 6) for start in starts(columns, player, sizes, at)]
+                    after = [(at - first) % 160 for first in begun]
+                    self.assertTrue(any(map(agree.get((old, new), lambda k: k < 40), after)), (scene.name, player))
+                    found.append(all(k < 8 * old for k in after))
+        self.assertEqual((len(found), sum(found)), (100, 80))
 
     def test_a_refused_tape(self):
         for file, rows in ROWS.items():
