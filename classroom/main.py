@@ -35,7 +35,7 @@ EXAMPLES = {
     "step": """
   ./glintstool step lessons/04-moving-left.txt --line 2
   ./glintstool step mine.txt --line 2 --clocks 0-75     the horizontal blank and what HMOVE adds to it
-  ./glintstool step mine.txt --line 1 --object P0""",
+  ./glintstool step mine.txt --line 1 --object P0       a player: its pixels too, and for how long each is shown""",
     "assemble": """
   ./glintstool assemble mine.txt -o mine.tape
   ./glintstool assemble mine.txt | target/bin/listing""",

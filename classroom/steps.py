@@ -5,22 +5,29 @@ from typing import NamedTuple
 from classroom.lines import BLANK, CLOCKS, UNSHOWN, lit
 from classroom.registers import MOVABLE, REGISTERS, signed
 
-RECORD = 34  # bytes of a clock's record: four that all objects share, then six for each object that moves
-SHARED = 4
-OBJECT = 6
+SHARED = 4  # bytes of a clock's record that all objects share, before those of each object that moves
+OBJECT = 6  # bytes of an object that moves
+PLAYERS = ("P0", "P1")
+DRAWING = ("pixel", "shown")  # what a player has beside these: a byte of the record for each, and a column of the table
 LED_ON, LED_OFF = "●", "○"
 LEDS = 6  # bits of the counter
 NO_MOTION = 16
 NOT_DRAWN = 64
-HEADS = ("clock", "column", "blank", "slot", "late", "position", "counter", "age", "motion", "live", "lit")
+NO_PIXEL = 8
+HEADS = ("clock", "column", "blank", "slot", "late", "position", "counter", "age", "motion", "live")
 NOTES = (
     f"^: the position rose. Slot {NO_MOTION}: no motion under way. Age {NOT_DRAWN}: nothing is being drawn.",
     "Counter: the card's value of the count position / 4, as lamps.",
 )
+DRAWING_NOTES = (
+    "Pixel: which of the eight of a copy is drawn, 0 the leftmost; -: none. Shown: for how many clocks, those without a pulse not counted.",
+    "The next pixel begins once this one has been shown as many clocks as the size that NUSIZ gives, 1, 2 or 4, or more.",
+)
 
 
 class Clock(NamedTuple):
-    """A clock and the state after it: what all objects share, and one object."""
+    """A clock and the state after it: what all objects share, and one object; drawing is a player's pixel and the clocks that it
+    has been shown, and empty for any other object."""
 
     clock: int
     answer: int
@@ -32,6 +39,16 @@ class Clock(NamedTuple):
     age: int
     motion: int
     live: bool
+    drawing: tuple
+
+
+def of_players(name, more):
+    """What a player has more than any other object, if the one with this name is a player; otherwise nothing."""
+    return more if name in PLAYERS else ()
+
+
+SIZES = [OBJECT + len(of_players(name, DRAWING)) for name in MOVABLE]  # of each object's bytes in a record
+RECORD = SHARED + sum(SIZES)  # bytes of a clock's record
 
 
 def clocks_of(records, name):
@@ -39,23 +56,25 @@ def clocks_of(records, name):
     whole."""
     if len(records) != CLOCKS * RECORD:
         raise ValueError(f"found {len(records)} bytes: expected {CLOCKS} records of {RECORD}")
-    at = SHARED + OBJECT * list(MOVABLE).index(name)
-    return [clock_of(records[start : start + RECORD], at) for start in range(0, len(records), RECORD)]
+    index = list(MOVABLE).index(name)
+    at = SHARED + sum(SIZES[:index])
+    place = slice(at, at + SIZES[index])
+    return [clock_of(records[start : start + RECORD], place) for start in range(0, len(records), RECORD)]
 
 
-def clock_of(record, at):
-    """A clock by its record, with the object whose bytes begin there."""
+def clock_of(record, place):
+    """A clock by its record, with the object whose bytes have this place in it."""
     clock, answer, slot, late = record[:SHARED]
-    position, rose, counter, age, motion, live = record[at : at + OBJECT]
-    return Clock(clock, answer, slot, bool(late), position, bool(rose), counter, age, motion, bool(live))
+    position, rose, counter, age, motion, live, *drawing = record[place]
+    return Clock(clock, answer, slot, bool(late), position, bool(rose), counter, age, motion, bool(live), tuple(drawing))
 
 
 def table(clocks, name, first, final, writes):
     """The rows that show the clocks from the first to the last for an object. writes has the text of the write on a clock."""
-    heads = [*HEADS, "write"]
+    heads = [*HEADS, *of_players(name, DRAWING), "lit", "write"]
     cells = [[*cells_of(clock, name), writes.get(clock.clock, "")] for clock in clocks[first : final + 1]]
     widths = [max(len(row[place]) for row in [heads, *cells]) for place in range(len(heads))]
-    return [row_of(row, widths) for row in [heads, *cells]] + ["", *NOTES]
+    return [row_of(row, widths) for row in [heads, *cells]] + ["", *NOTES, *of_players(name, DRAWING_NOTES)]
 
 
 def row_of(cells, widths):
@@ -64,7 +83,7 @@ def row_of(cells, widths):
 
 
 def cells_of(clock, name):
-    """The cells of a clock, one for each head."""
+    """The cells of a clock, one for each head but that of the write."""
     column = "-" if clock.clock < BLANK else str(clock.clock - BLANK)
     return [
         str(clock.clock),
@@ -77,8 +96,18 @@ def cells_of(clock, name):
         str(clock.age),
         f"{signed(clock.motion):+}",
         "live" if clock.live else "-",
+        *drawing_cells(clock.drawing),
         "lit" if name in lit(clock.answer) else "-",
     ]
+
+
+def drawing_cells(drawing):
+    """The cells of a player's pixel and of the clocks that it has been shown; none for any other object."""
+    if not drawing:
+        return []
+    pixel, shown = drawing
+    is_drawn = pixel != NO_PIXEL
+    return [str(pixel) if is_drawn else "-", str(shown) if is_drawn or shown else "-"]
 
 
 def leds(value):

@@ -735,8 +735,15 @@ class Others(Case):
         for words, expected in ([], "P0"), (["--object", "bl"], "BL"), (["--object", "M1"], "M1"):
             rows = self.rows("step", name, "--line", "1", *words)
             self.assertEqual(rows[0], f"a.txt, line 1, {expected}")
-            lit = [int(row.split()[1]) for row in rows[2:230] if row.split()[10] == "lit"]
+            lit = [int(row.split()[1]) for row in rows[2:230] if row.split()[rows[1].split().index("lit")] == "lit"]
             self.assertEqual(lit, {"P0": [*range(17, 25)], "BL": [96], "M1": [76]}[expected])
+
+    def test_step_shows_the_pixels_of_a_player(self):
+        name = self.file("a.txt", "line\n 0 GRP0 $FF\n 1 NUSIZ0 7\n 100 RESP0\nline\n 116 NUSIZ0 0\n")
+        rows = self.rows("step", name, "--line", "1", "--clocks", "105-121")
+        self.assertEqual(rows[1].split()[10:12], ["pixel", "shown"])
+        cells = ["".join(row.split()[10:12]) for row in rows[2:19]]
+        self.assertEqual(cells, "-- 01 02 03 04 11 12 13 14 21 22 31 41 51 61 71 --".split())
 
     def test_from_another_folder(self):
         (self.folder / "link").symlink_to(PROJECT / "glintstool")

@@ -7,6 +7,7 @@ import shlex
 import subprocess
 import tempfile
 import unittest
+from itertools import product
 from pathlib import Path
 from typing import NamedTuple
 
@@ -19,7 +20,9 @@ from classroom.television import pixels_of
 
 PROJECT = Path(__file__).resolve().parent.parent.parent
 LESSONS = sorted((PROJECT / "lessons").glob("*.txt"))
-COLOURED = [lesson for lesson in LESSONS if lesson.name >= "13"]  # those that name colours on every line
+COLOURED = [lesson for lesson in LESSONS if "13" <= lesson.name < "16"]  # those that name colours on every line
+SIZES, STRETCHED = LESSONS[5], LESSONS[15]  # those that show the sizes of a player
+TRIED = [SIZES, *COLOURED, STRETCHED]  # those whose changes to try can be read here
 WITH_HINTS = ["09-refusal.txt", "11-blank-columns.txt"]  # those that show a late HMOVE on purpose
 COURSE = (PROJECT / "lessons/README.md").read_text("utf-8")
 
@@ -33,7 +36,7 @@ NOT_RUN = re.compile(r"not reached|refused \d+ line")
 # A change to try: a write to add (value and clock), to give another value or another clock, or to take away.
 CHANGE = re.compile(
     rf"(?:write (?P<register>\w+)(?: (?P<value>\$\w+))?(?: at clock (?P<clock>\d+))? (?:in|of)|take (?P<gone>\w+) of) "
-    rf"(?P<place>{NUMBERS})(?: away)?"
+    rf"(?P<place>{NUMBERS})(?: away|, not at clock (?P<old>\d+))?"
 )
 
 
@@ -71,15 +74,17 @@ def heading(lines):
     return str(lines[0]) if len(lines) == 1 else f"lines {lines[0]} to {lines[-1]}"
 
 
+def spans(words):
+    """The spans of columns that a remark names, each with what it says of them: `lit`, `blank` or their colour."""
+    return [(numbers(span), said or "lit") for named, said in CLAIM.findall(words) for span in re.findall(SPAN, named)]
+
+
 def claims(words):
-    """The columns that a remark names: pairs of the column and what it says of it, `lit`, `blank` or its colour. A colour is
-    said of every column from the first to the last of a span, the rest of these two alone."""
+    """The columns that a remark names: pairs of the column and what it says of it. A colour is said of every column from the
+    first to the last of a span, the rest of these two alone."""
     found = []
-    for named, said in CLAIM.findall(words):
-        for span in re.findall(SPAN, named):
-            ends = [int(column) for column in re.findall(r"\d+", span)]
-            columns = range(ends[0], ends[-1] + 1) if said.startswith("$") else ends
-            found += [(column, said or "lit") for column in columns]
+    for columns, said in spans(words):
+        found += [(column, said) for column in (columns if said.startswith("$") else sorted({columns[0], columns[-1]}))]
     return found
 
 
@@ -113,7 +118,7 @@ def tries(text):
 
 
 def numbers(words):
-    """The numbers that `line 3` or `lines 3 to 8` names."""
+    """The numbers that `line 3`, `lines 3 to 8`, `3` or `3 to 8` names."""
     ends = [int(number) for number in re.findall(r"\d+", words)]
     return list(range(ends[0], ends[-1] + 1))
 
@@ -143,7 +148,7 @@ def changed(text, words):
 
 def changed_writes(writes, change):
     """The writes of a line by their clocks after a change. Fails with ValueError where the register to change is not written
-    exactly once, or a clock to write at is taken."""
+    exactly once, or at another clock than the change says, or a clock to write at is taken."""
     register, value = change["register"] or change["gone"], change["value"]
     clock = int(change["clock"]) if change["clock"] else None
     if clock in writes:
@@ -151,6 +156,8 @@ def changed_writes(writes, change):
     if value and clock is not None:
         return {**writes, clock: f"{register} {value}"}
     (old,) = [at for at, write in writes.items() if write.split()[0] == register]
+    if change["old"] not in (None, str(old)):
+        raise ValueError(f"{register} is written at clock {old}")
     rest = {at: write for at, write in writes.items() if at != old}
     if value:
         return {**rest, old: f"{register} {value}"}
@@ -175,9 +182,14 @@ def cells(text, columns):
     return [row for at, row in enumerate(rows) if len(row) == columns and at not in rules and at + 1 not in rules]
 
 
+def columns_lit(line, name):
+    """The columns in which a line lights an object."""
+    return [column for column, byte in enumerate(line.objects) if name in lit(byte)]
+
+
 def first_lit(line, name):
     """The first column in which a line lights an object, or None."""
-    return next((column for column, byte in enumerate(line.objects) if name in lit(byte)), None)
+    return next(iter(columns_lit(line, name)), None)
 
 
 class Reading(unittest.TestCase):
@@ -220,11 +232,13 @@ class Reading(unittest.TestCase):
             ("write PF0 $20 in line 0", first, " 0 PF0 $20\n 9 HMOVE\n", [0]),
             ("write PF0 $20 at clock 7 of line 0", first, " 0 PF0 $10\n 7 PF0 $20\n 9 HMOVE\n", [0]),
             ("write PF0 at clock 10 of line 0", first, " 9 HMOVE\n 10 PF0 $10\n", [0]),
+            ("write PF0 at clock 10 of line 0, not at clock 0", first, " 9 HMOVE\n 10 PF0 $10\n", [0]),
             ("take HMOVE of line 0 away", first, " 0 PF0 $10\n", [0]),
             ("write PF1 $02 in lines 1 to 2", second, " 0 PF1 $02\n", [1, 2]),
         ):
             self.assertEqual(changed(text, words), (text.replace(old, new), lines), words)
-        for words in ("look", "write PF1 $01 in line 0", "write PF0 at clock 9 of line 0", "write PF1 $01 in line 1"):
+        at_10 = "write PF0 at clock 10 of line 0, not at clock 9"
+        for words in ("look", "write PF1 $01 in line 0", "write PF0 at clock 9 of line 0", "write PF1 $01 in line 1", at_10):
             self.assertRaises(ValueError, changed, text, words)
         self.assertEqual(tries(text), [("x", "there column 3.")])
         found = results("there column 3; in lines 4 to 5 column 6 is $0E.", [9])
@@ -258,6 +272,12 @@ class Remarks(unittest.TestCase):
                 if not place.inside:
                     self.assertTrue(any(said.startswith("$") for _, said in claims(place.words)), f"{lesson.name}: {place.words}")
 
+    def test_every_column_that_a_stretched_player_lights_is_named(self):
+        text = STRETCHED.read_text("utf-8")
+        for place, line in zip(places(text), lines_run(text)):
+            named = [column for columns, _ in spans(place.words) for column in columns]
+            self.assertEqual(named, columns_lit(line, "P0"), place.words)
+
     def test_dark(self):
         dark = [(where, line) for where, words, line in each_line() if words.startswith("dark")]
         for where, line in dark:
@@ -274,8 +294,8 @@ class Remarks(unittest.TestCase):
 
 
 class Tries(unittest.TestCase):
-    def test_results_of_the_lessons_with_colours(self):
-        for lesson in COLOURED:
+    def test_results(self):
+        for lesson in TRIED:
             text = lesson.read_text("utf-8")
             self.assertGreaterEqual(len(tries(text)), 3, lesson.name)
             before = lines_run(text)
@@ -311,7 +331,8 @@ class Commands(unittest.TestCase):
             done = subprocess.run(words, cwd=PROJECT, capture_output=True, text=True, check=True)
             self.assertEqual(done.stderr, "", command)
         stored = (PROJECT / "lessons/15-landscape.png").read_bytes()
-        self.assertEqual(pixels_of((self.folder / "mine.png").read_bytes()), pixels_of(stored))
+        drawn = (self.folder / "mine.png").read_bytes()
+        self.assertTrue(pixels_of(drawn) == pixels_of(stored))  # assertEqual would take minutes to show a difference
 
     def commands(self, verb):
         """The commands with this verb that the lessons with colours name, each with the lesson's lines."""
@@ -340,6 +361,16 @@ class Commands(unittest.TestCase):
         for runs in re.findall('data-runs="([0-9A-F]*)"', page):
             shown.append(b"".join(int(length, 16) * bytes.fromhex(byte) for byte, length in re.findall("..(..)(..)", runs)))
         self.assertEqual(shown, [line.colours for line in lines])
+
+    def test_steps_of_a_stretched_player(self):
+        text = STRETCHED.read_text("utf-8")
+        (command,) = re.findall(r"^; (\./glintstool step .*)$", text, re.M)
+        done = subprocess.run(shlex.split(command), cwd=PROJECT, capture_output=True, text=True, check=True)
+        heading_row, heads, *rows = done.stdout.partition("\n\n")[0].splitlines()
+        number = int(re.fullmatch(rf"lessons/{STRETCHED.name}, line (\d+), P0", heading_row)[1])
+        shown = [dict(zip(heads.split(), row.split())) for row in rows]
+        self.assertEqual([int(row["column"]) for row in shown if row["lit"] == "lit"], columns_lit(lines_run(text)[number], "P0"))
+        self.assertEqual({row["pixel"] for row in shown}, {*"01234567", "-"})
 
     def test_look_shows_each_colour_as_one_of_its_own(self):
         (lesson,) = [lesson for lesson in COLOURED if "./glintstool look shows the colours" in lesson.read_text("utf-8")]
@@ -400,6 +431,16 @@ class Course(unittest.TestCase):
         sun = lines_run(text)[40]
         self.assertEqual([column for column, colour in enumerate(sun.colours) if colour == 0x1E], list(range(first, final + 1)))
 
+    def test_answer_16(self):
+        (task,) = [row[3] for row in cells(section("The lessons"), 4) if STRETCHED.name in row[0]]
+        line, end = map(int, re.fullmatch(r".* NUSIZ0 `\$00` in line (\d+), let the copy end in column (\d+)\.", task).groups())
+        (answer,) = re.findall(r"^16\. At clock (\d+) or (\d+)\. ", COURSE, re.M)
+        text, found = STRETCHED.read_text("utf-8"), []
+        for clock in range(100, 160):
+            new, _ = changed(text, f"write NUSIZ0 $00 at clock {clock} of line {line}")
+            found += [clock] if columns_lit(lines_run(new)[line], "P0")[-1] == end else []
+        self.assertEqual(found, [int(clock) for clock in answer])
+
 
 class Scanline(unittest.TestCase):
     def setUp(self):
@@ -449,11 +490,20 @@ class Scanline(unittest.TestCase):
                     self.assertEqual(self.columns_after(name, clock), [first, column], f"{name} at {clock}")
         self.assertEqual(sorted(found), sorted(movable.strobe for movable in MOVABLE.values()))
 
-    def columns_after(self, strobe, clock):
-        """The first column that the object of a strobe lights on the line of the strobe, and on the next."""
+    def test_where_strobes_put_a_stretched_player(self):
+        words = r"A player of double or four times the size .*: (\d+) further right .* strobed in the blank, in column (\d+) "
+        right, in_blank = map(int, re.search(words, section("The scanline")).groups())
+        for player, size, clock in product("01", (5, 7), (68, 100, 150, 0, 30, 67)):
+            column = clock - BLANK + right if clock >= BLANK else in_blank
+            write = f" 1 NUSIZ{player} {size}\n"
+            self.assertEqual(self.columns_after(f"RESP{player}", clock, write), [None, column], (player, size, clock))
+
+    def columns_after(self, strobe, clock, write=""):
+        """The first column that the object of a strobe lights on the line of the strobe, and on the next, after a write at clock
+        1 of the line before."""
         ((name, movable),) = [(name, movable) for name, movable in MOVABLE.items() if movable.strobe == strobe]
         # It is strobed on the line before too, so that no earlier start lights it on the line of the strobe.
-        lines = lines_run(f"line\n 0 {movable.shown} $FF\n 200 {strobe}\nline\n {clock} {strobe}\nline\n")
+        lines = lines_run(f"line\n 0 {movable.shown} $FF\n{write} 200 {strobe}\nline\n {clock} {strobe}\nline\n")
         return [first_lit(line, name) for line in lines[1:]]
 
 
@@ -472,12 +522,13 @@ class Card(unittest.TestCase):
         self.assertEqual(found, {name: (f"${address:02X}", strobe, mask) for name, (address, strobe, mask) in REGISTERS.items()})
 
     def test_copies(self):
-        drawn = re.findall(r"^    ([0-7]) ([X.]+) ", self.text, re.M)
-        self.assertEqual([number for number, _ in drawn], list("01234567"))
-        for number, copies in drawn:
+        drawn = re.findall(r"^    ([0-7]) ([X.]+) +(.*)$", self.text, re.M)
+        self.assertEqual([number for number, _, _ in drawn], list("01234567"))
+        for number, copies, words in drawn:
             lines = lines_run(f"line\n 0 GRP0 $FF\n 1 ENAM0 $02\n 2 NUSIZ0 {number}\n 75 RESP0\n 76 RESM0\nline\n")
             self.assertEqual(copies_shown(lines[1], "P0"), copies, number)
             self.assertEqual(copies_shown(lines[1], "M0"), copies if "XX" not in copies else "X", number)
+            self.assertEqual(first_lit(lines[1], "P0"), 13 if "one column further right" in words else 12, number)
 
     def test_latches(self):
         words = self.text.partition("The `cx` row")[2]
@@ -492,7 +543,7 @@ def mask_of(bits):
 
 def copies_shown(line, name):
     """The copies of an object in a line, a letter for eight columns from the first that it lights to the last."""
-    columns = [column for column, byte in enumerate(line.objects) if name in lit(byte)]
+    columns = columns_lit(line, name)
     lit_parts = {(column - columns[0]) // 8 for column in columns}
     return "".join("X" if part in lit_parts else "." for part in range(max(lit_parts) + 1))
 

@@ -174,7 +174,7 @@ class Answers(unittest.TestCase):
     def test_clocks_of_the_line_asked_for(self):
         tape = assemble("repeat 300\nline\nend\n")
         for number in (0, 1, 255, 256, 299):
-            self.assertEqual(len(programs.clock_bytes(tape, number)), 228 * 34)
+            self.assertEqual(len(programs.clock_bytes(tape, number)), 228 * 38)
         self.assertEqual(programs.clock_bytes(tape, 300), b"")
 
 
@@ -422,7 +422,7 @@ class Failing(Project):
     def test_the_other_verbs(self):
         self.program("line_bytes", self.one_line)
         self.program("listing", "printf 'line\\n0\\nx\\n'")
-        self.program("clock_bytes", "head -c 7752 /dev/zero")
+        self.program("clock_bytes", "head -c 8664 /dev/zero")
         for words in (["list"], ["picture", "-o", "out"], ["page", "-o", "out"], ["step", "--line", "0"]):
             self.assert_fails(NO_END.format("'x'"), *words, "mine.txt")
         self.program("listing", "")
@@ -430,9 +430,9 @@ class Failing(Project):
         self.assertFalse((self.folder / "out").exists())
 
     def test_records_that_are_not_whole(self):
-        self.program("clock_bytes", "head -c 34 /dev/zero")
+        self.program("clock_bytes", "head -c 38 /dev/zero")
         self.program("listing", f"cat <<'END'\n{LISTING}END")
-        self.assert_fails("target/bin/clock_bytes: found 34 bytes: expected 228 records of 34", "step", "--line", "0", "mine.txt")
+        self.assert_fails("target/bin/clock_bytes: found 38 bytes: expected 228 records of 38", "step", "--line", "0", "mine.txt")
 
     def test_a_program_that_is_none(self):
         self.program("listing", "")

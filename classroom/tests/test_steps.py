@@ -1,6 +1,7 @@
 """Tests of the table of a line's clocks, by records made here and by those of the lessons. Needs target/bin/clock_bytes and
 target/bin/line_bytes. Run: python3 -m unittest classroom.tests.test_steps"""
 
+import re
 import subprocess
 import sys
 import unittest
@@ -16,9 +17,12 @@ from classroom.steps import Clock, clocks_of, first_strobed, leds, table
 
 PROJECT = Path(__file__).resolve().parent.parent.parent
 MOVABLE = OBJECTS[:5]
+PLAYERS = OBJECTS[:2]
 HEADS = "clock column blank slot late position counter age motion live lit write".split()
+PLAYER_HEADS = "clock column blank slot late position counter age motion live pixel shown lit write".split()
+BEGINNINGS = {"P0": 4, "P1": 12, "M0": 20, "M1": 26, "BL": 32}  # of an object's bytes in a record
 LAMPS = {"●": "1", "○": "0"}
-LESSONS = ("04-moving-left", "08-collision", "12-widths-and-ball")
+LESSONS = ("04-moving-left", "06-copies-and-sizes", "08-collision", "12-widths-and-ball", "16-stretched-halfway")
 TAPES = [(PROJECT / f"lessons/{name}.tape").read_bytes() for name in LESSONS]
 
 # A tape that lights all five objects that move, and moves each by another value.
@@ -43,7 +47,8 @@ def card():
 
 def record(clock, answer=64, slot=16, late=0, **objects):
     """A record of a clock with these bytes for the objects named, and zeros for the others."""
-    return bytes([clock, answer, slot, late]) + b"".join(bytes(objects.get(name, [0] * 6)) for name in MOVABLE)
+    sizes = {name: 8 if name in PLAYERS else 6 for name in MOVABLE}
+    return bytes([clock, answer, slot, late]) + b"".join(bytes(objects.get(name, size)) for name, size in sizes.items())
 
 
 def records_with(changed):
@@ -67,33 +72,39 @@ def rows_of(clocks, name, first=0, final=227, writes=None):
     heads, *rows = table(clocks, name, first, final, writes or {})
     found = []
     for row in rows[: rows.index("")]:
-        cells = row.split(None, 11)
+        cells = row.split(None, len(heads.split()) - 1)
         found.append(dict(zip(heads.split(), cells + [""])))
     return found
 
 
 class Records(unittest.TestCase):
     def test_each_byte_has_its_meaning(self):
-        players = {"P0": (1, 1, 2, 3, 4, 1), "P1": (5, 0, 6, 7, 8, 0)}
+        players = {"P0": (1, 1, 2, 3, 4, 1, 7, 2), "P1": (5, 0, 6, 7, 8, 0, 3, 4)}
         others = {"M0": (9, 1, 10, 11, 12, 0), "M1": (13, 0, 14, 15, 1, 1), "BL": (17, 1, 18, 19, 2, 1)}
         given = record(9, 5, 3, 1, **players, **others)
         expected = {
-            "P0": Clock(9, 5, 3, True, 1, True, 2, 3, 4, True),
-            "P1": Clock(9, 5, 3, True, 5, False, 6, 7, 8, False),
-            "M0": Clock(9, 5, 3, True, 9, True, 10, 11, 12, False),
-            "M1": Clock(9, 5, 3, True, 13, False, 14, 15, 1, True),
-            "BL": Clock(9, 5, 3, True, 17, True, 18, 19, 2, True),
+            "P0": Clock(9, 5, 3, True, 1, True, 2, 3, 4, True, (7, 2)),
+            "P1": Clock(9, 5, 3, True, 5, False, 6, 7, 8, False, (3, 4)),
+            "M0": Clock(9, 5, 3, True, 9, True, 10, 11, 12, False, ()),
+            "M1": Clock(9, 5, 3, True, 13, False, 14, 15, 1, True, ()),
+            "BL": Clock(9, 5, 3, True, 17, True, 18, 19, 2, True, ()),
         }
         for name, clock in expected.items():
             clocks = clocks_of(records_with({9: given}), name)
             self.assertEqual(clocks[9], clock)
-            self.assertEqual(clocks[8], Clock(8, 64, 16, False, 0, False, 0, 0, 0, False))
+            drawing = (0, 0) if name in PLAYERS else ()
+            self.assertEqual(clocks[8], Clock(8, 64, 16, False, 0, False, 0, 0, 0, False, drawing))
             self.assertEqual(len(clocks), 228)
 
     def test_records_that_are_not_whole(self):
-        for length in (0, 33, 34, 228 * 34 - 1, 228 * 34 + 1, 229 * 34):
-            with self.assertRaisesRegex(ValueError, f"^found {length} bytes: expected 228 records of 34$"):
+        for length in (0, 37, 38, 228 * 38 - 1, 228 * 38 + 1, 229 * 38):
+            with self.assertRaisesRegex(ValueError, f"^found {length} bytes: expected 228 records of 38$"):
                 clocks_of(bytes(length), "P0")
+
+    def test_records_without_the_bytes_of_a_drawing(self):
+        for name in MOVABLE:
+            with self.assertRaisesRegex(ValueError, "^found 7752 bytes: expected 228 records of 38$"):
+                clocks_of(bytes(228 * 34), name)
 
 
 class Table(unittest.TestCase):
@@ -103,7 +114,9 @@ class Table(unittest.TestCase):
         return rows_of(clocks, name, clock, clock)[0]
 
     def test_heads(self):
-        self.assertEqual(table(clocks_of(records_with({}), "P0"), "P0", 0, 0, {})[0].split(), HEADS)
+        for name in MOVABLE:
+            expected = PLAYER_HEADS if name in PLAYERS else HEADS
+            self.assertEqual(table(clocks_of(records_with({}), name), name, 0, 0, {})[0].split(), expected)
 
     def test_clock_and_column(self):
         rows = rows_of(clocks_of(records_with({}), "P0"), "P0")
@@ -124,12 +137,18 @@ class Table(unittest.TestCase):
         self.assertEqual([self.cells(late=late)["late"] for late in (0, 1)], ["-", "late"])
 
     def test_the_object(self):
-        cells = self.cells(M0=(159, 0, 0b101100, 64, 9, 1), P0=(3, 1, 1, 1, 1, 0))
+        cells = self.cells(M0=(159, 0, 0b101100, 64, 9, 1), P0=(3, 1, 1, 1, 1, 0, 2, 1))
         expected = {"position": "159", "counter": "●○●●○○", "age": "64", "motion": "-7", "live": "live"}
         self.assertEqual({head: cells[head] for head in expected}, expected)
-        cells = self.cells("P0", M0=(159, 0, 0b101100, 64, 9, 1), P0=(3, 1, 1, 2, 1, 0))
+        cells = self.cells("P0", M0=(159, 0, 0b101100, 64, 9, 1), P0=(3, 1, 1, 2, 1, 0, 2, 1))
         expected = {"position": "3^", "counter": "○○○○○●", "age": "2", "motion": "+1", "live": "-"}
         self.assertEqual({head: cells[head] for head in expected}, expected)
+
+    def test_the_drawing_of_a_player(self):
+        for name, pixel, shown in product(PLAYERS, range(9), range(5)):
+            cells = self.cells(name, **{name: (0, 0, 0, 0, 0, 0, pixel, shown)})
+            expected = (str(pixel), str(shown)) if pixel < 8 else ("-", str(shown) if shown else "-")
+            self.assertEqual((cells["pixel"], cells["shown"]), expected, (name, pixel, shown))
 
     def test_every_motion_value_has_its_sign(self):
         found = [self.cells(M0=(0, 0, 0, 0, motion, 0))["motion"] for motion in range(16)]
@@ -145,20 +164,25 @@ class Table(unittest.TestCase):
         self.assertEqual([row["write"] for row in rows], ["", "", "", "ENAM0 $02", "", "", "", "", "", "HMOVE"])
 
     def test_cells_stand_under_their_heads(self):
-        clocks = clocks_of(records_with({100: record(100, 4, 3, 1, M0=(159, 1, 63, 64, 9, 1))}), "M0")
-        heads, *rows = table(clocks, "M0", 99, 101, {100: "RESM0"})
-        ends = [heads.index(head) + len(head) for head in HEADS[:-1]]
-        for row in rows[: rows.index("")]:
-            self.assertEqual(row, row.rstrip())
-            for end in ends:
-                self.assertNotEqual(row[end - 2 : end].strip(), "")
-                self.assertEqual(row[end : end + 1].strip(), "")
-        self.assertEqual(rows[1].index("RESM0"), heads.index("write"))
+        for name, drawing in (("M0", ()), ("P1", (7, 4))):
+            clocks = clocks_of(records_with({100: record(100, 6, 3, 1, **{name: (159, 1, 63, 64, 9, 1, *drawing)})}), name)
+            heads, *rows = table(clocks, name, 99, 101, {100: "RESM0"})
+            ends = [head.end() for head in re.finditer(r"\S+", heads)][:-1]
+            for row in rows[: rows.index("")]:
+                self.assertEqual(row, row.rstrip())
+                for end in ends:
+                    self.assertNotEqual(row[end - 2 : end].strip(), "")
+                    self.assertEqual(row[end : end + 1].strip(), "")
+            self.assertEqual(rows[1].index("RESM0"), heads.index("write"))
 
     def test_what_the_marks_mean_is_told(self):
-        told = " ".join(table(clocks_of(records_with({}), "M0"), "M0", 0, 0, {})[-2:])
-        for word in ("^", "16", "64", "counter", "card"):
-            self.assertIn(word, told.lower())
+        for name in MOVABLE:
+            rows = table(clocks_of(records_with({}), name), name, 0, 0, {})
+            told = " ".join(rows[rows.index("") :]).lower()
+            for word in ("^", "16", "64", "counter", "card"):
+                self.assertIn(word, told)
+            for word in ("pixel: ", "shown: ", "nusiz"):
+                self.assertEqual(word in told, name in PLAYERS, (name, word))
 
 
 class Lamps(unittest.TestCase):
@@ -188,6 +212,27 @@ class Lessons(unittest.TestCase):
             self.assertEqual(found[:68], [False] * 68)
             seen.update({name} if any(found) else ())
         self.assertEqual(seen, set(MOVABLE))
+
+    def test_the_numbers_are_the_bytes_of_the_record(self):
+        numbers = {"position": 0, "age": 3, "pixel": 6, "shown": 7}  # their places among an object's bytes
+        none = {"pixel": 8, "shown": 0}  # the numbers for which - stands
+        drawn = set()
+        for (tape, number, _), name in product(list(self.each_line()), MOVABLE):
+            records = records_of(tape, number)
+            for clock, row in enumerate(rows_of(clocks_of(records, name), name)):
+                record_here = records[38 * clock : 38 * clock + 38]
+                self.assertEqual((int(row["clock"]), int(row["slot"])), (record_here[0], record_here[2]))
+                for head in row.keys() & numbers.keys():
+                    number_shown = none[head] if row[head] == "-" else int(row[head].rstrip("^"))
+                    self.assertEqual(number_shown, record_here[BEGINNINGS[name] + numbers[head]], (name, head, row))
+                drawn.add((row.get("pixel"), row.get("shown")))
+        self.assertEqual(drawn, {(None, None), ("-", "-"), *product("01234567", "1234")})
+
+    def test_a_player_is_lit_where_its_pixel_is(self):
+        for graphic, name in ((0xA5, "P0"), (0xFF, "P1")):
+            for row in rows_of(clocks_of(records_of(assemble(MOVING), 1), name), name):
+                is_lit = row["pixel"] != "-" and row["blank"] == "-" and graphic >> 7 - int(row["pixel"]) & 1
+                self.assertEqual(row["lit"], "lit" if is_lit else "-", row)
 
     def test_blank_is_what_line_bytes_blanks(self):
         for tape, number, line in self.each_line():
@@ -233,13 +278,13 @@ class Lessons(unittest.TestCase):
 class Runs(unittest.TestCase):
     def test_a_line_that_is_not_run_has_no_records(self):
         tape = assemble(MOVING)
-        self.assertEqual(len(records_of(tape, 4)), 228 * 34)
+        self.assertEqual(len(records_of(tape, 4)), 228 * 38)
         for number in (5, 6, 65535):
             self.assertEqual(records_of(tape, number), b"")
 
     def test_the_lines_before_a_refused_one_have_records(self):
         tape = assemble(REFUSED)
-        self.assertEqual([len(records_of(tape, number)) for number in range(4)], [228 * 34, 0, 0, 0])
+        self.assertEqual([len(records_of(tape, number)) for number in range(4)], [228 * 38, 0, 0, 0])
 
 
 class Strobed(unittest.TestCase):
