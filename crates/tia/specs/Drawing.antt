@@ -18,8 +18,8 @@ abbrev pub drawingAge : (sizeAtStart : ℕ) → ℕ
 drawingAge sizeAtStart = cond (eqb sizeAtStart 1) 5 6
 
 -- On that pulse it shows pixel 0 for the first time.
-abbrev pub firstShown : Drawing
-firstShown = record { pixel = 0; shown = 1 }
+abbrev pub firstPixel : Drawing
+firstPixel = record { pixel = 0; shown = 1 }
 
 -- On each later pulse, if the current pixel has been shown at least as many clocks as the size read now, the next pixel
 -- begins; otherwise it is shown again. After pixel 7 there is none.
@@ -36,7 +36,7 @@ goneOn sizeNow d = cond (ltb (d .pixel) noPixel) (cond (leb sizeNow (d .shown)) 
 -- The drawing after a pulse, by the age that the pulse brings. A new start ends a copy in progress.
 unfoldable pub nextDrawing : (start : Bool) (age sizeAtStart sizeNow : ℕ) → Drawing → Drawing
 nextDrawing start age sizeAtStart sizeNow d =
-    cond start noDrawing (cond (eqb age (drawingAge sizeAtStart)) firstShown (goneOn sizeNow d))
+    cond start noDrawing (cond (eqb age (drawingAge sizeAtStart)) firstPixel (goneOn sizeNow d))
 
 -- 8. Lit: where there is a pixel and its bit is set, from bit 7 down, or from bit 0 up when reflected, of the new graphic, or the
 -- old with VDELP.

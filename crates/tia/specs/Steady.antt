@@ -59,8 +59,8 @@ abbrev pub CopiesStay : PlayerName → (ℕ → Type 0) → State → List Write
 CopiesStay q Kind s [] = Unit {0}
 CopiesStay q Kind s (w ∷ ws) = Kind (copiesOf q (clockOf s w .state)) × CopiesStay q Kind (clockOf s w .state) ws
 
--- From a clock that starts a copy on, whatever is written, strobes and motion among it, as long as the copies are of one size:
--- lit by its age.
+-- From a clock that starts a copy on, whatever is written, strobes and motion among it, as long as the copies are of one size: what
+-- step 8 lights on the last of these clocks goes by the age.
 abbrev pub LitByAge : Type 0
 LitByAge =
     (q : PlayerName) (size : ℕ) (s : State) (w : Write) (ws : List Write) → movedOn q s w .started ≡ true →
