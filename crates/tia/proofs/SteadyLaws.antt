@@ -22,8 +22,8 @@ use Rattle.tia.specs.Timing.{timingWritten, tickOf}
 use Rattle.tia.specs.Drawing.{noDrawing, drawingAge, nextDrawing, shownBit, drawingLit}
 use Rattle.tia.specs.Object.{isPulsed, reached, older, starts, sizeOf, objectWritten, objectMoved, objectAfter, playerAfter}
 use Rattle.tia.specs.Clock.{objectsAfter, clockOf}
-use Rattle.tia.specs.Steady.{litByAge, PlayerName, Player0, Player1, playerOf, copiesOf, graphicOf, movedOn, afterClocks, CopiesStay}
-use Rattle.tia.specs.Steady.{LitByAge, LitAsBefore}
+use Rattle.tia.specs.Steady.{litByAge, PlayerName, Player0, Player1, playerOf, copiesOf, graphicOf, movedOn, afterClocks, CopiesAlways}
+use Rattle.tia.specs.Steady.{LitByAge, LitAsDocument01}
 use Rattle.tia.proofs.RangeLaws.{of-sizes}
 use Rattle.tia.proofs.DrawLaws.{drawnOn, size-kept}
 
@@ -133,7 +133,7 @@ steady-from-start k strobe hm copies w p size e start =
 
 -- So over clocks, from one that starts a copy on.
 abbrev SizeStays : PlayerName → ℕ → State → List Write → Type 0
-SizeStays q size s ws = CopiesStay q (λ copies. sizeOf copies ≡ size) s ws
+SizeStays q size s ws = CopiesAlways q (λ copies. sizeOf copies ≡ size) s ws
 
 abbrev tickAt : State → Write → Tick
 tickAt s w = tickOf w (timingWritten w (s .timing))
@@ -200,11 +200,11 @@ unfolding sizeOf
 size-one copies e = rw (or-first (eqb copies 5) (eqb copies 7) e, or-second (eqb copies 5) (eqb copies 7) e)
 
 sizes-one :
-    (q : PlayerName) (s : State) (ws : List Write) → CopiesStay q (λ copies. (eqb copies 5 || eqb copies 7) ≡ false) s ws → SizeStays q 1 s ws
+    (q : PlayerName) (s : State) (ws : List Write) → CopiesAlways q (λ copies. (eqb copies 5 || eqb copies 7) ≡ false) s ws → SizeStays q 1 s ws
 sizes-one q s [] never = tt
 sizes-one q s (w ∷ ws) never = (size-one (copiesOf q (clockOf s w .state)) (never .0), sizes-one q (clockOf s w .state) ws (never .1))
 
-pub lit-as-before : LitAsBefore
-lit-as-before q s w ws start never =
+pub lit-as-document-01 : LitAsDocument01
+lit-as-document-01 q s w ws start never =
     let stays = sizes-one q s (w ∷ ws) never in
     lit-by-age q 1 s w ws start stays ∙ rw (steady-after q 1 s w ws start stays .0)

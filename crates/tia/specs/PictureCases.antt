@@ -103,10 +103,10 @@ pictureCases =
     ∷ [])
     (pos 6)
     12
-    -- One copy of four times the size, which is stretched otherwise during the run. It runs over the line's end, columns 148 to 19, and
+    -- One copy of four times the size, which is stretched otherwise during the run. It runs over the line's end, columns 147 to 18, and
     -- is moved right by 3.
     ∷ picturing 18 7
-    (record { reflected = true; new = 0xA5; old = 0; delayed = false })
+    (record { reflected = true; new = 0x93; old = 0; delayed = false })
     (calling (0 ∷ HMP0 ∷ 0xD0 ∷ 9 ∷ HMOVE ∷ 0 ∷ 80 ∷ NUSIZ0 ∷ 5 ∷ 225 ∷ NUSIZ0 ∷ 7 ∷ []) refl ∷ [])
     (negsuc 2)
     16
