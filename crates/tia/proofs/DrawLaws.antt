@@ -13,14 +13,13 @@ use Rattle.tia.specs.declared.timing.Tick.{Tick}
 use Rattle.tia.specs.declared.write.Write.the-variants.{Nothing}
 use Rattle.tia.specs.Write.{HMP0, HMP1, RESP0, RESP1}
 use Rattle.tia.specs.Registers.{registersAfter}
-use Rattle.tia.specs.Timing.{timingWritten, tickOf}
 use Rattle.tia.specs.Drawing.{noDrawing, nextDrawing, drawingLit}
 use Rattle.tia.specs.Object.{objectWritten, isPulsed, reached, older, starts, sizeOf, objectMoved, objectAfter, playerAfter}
 use Rattle.tia.specs.Lit.{drawnWide, missileLit, ballLit, litOf}
 use Rattle.tia.specs.Clock.{objectsAfter, clockOf}
 use Rattle.tia.specs.Movable.{Movable, P0, P1, M0, M1, BL, DrawingRegisters, player, missile, ball, bodyOf, positionOf, motionRegisterOf, drawingOf}
 use Rattle.tia.proofs.Computing.{objectSteps}
-use Rattle.tia.proofs.TrackLaws.{trackOf, pulsedOn, clock-position}
+use Rattle.tia.proofs.TrackLaws.{tickAt, trackOf, pulsedOn, clock-position}
 
 -- The copies that an object's starts go by.
 abbrev copiesOf : DrawingRegisters → ℕ
@@ -178,21 +177,18 @@ player-from-zero k strobe hm copies p hit last =
       drawn-from-zero pulse copies from (p .body .age) (p .size) (p .drawing) hit last,
     )
 
-abbrev quietTick : State → Tick
-quietTick s = tickOf Nothing (timingWritten Nothing (s .timing))
-
 drawing-stays : (o : Movable) (s : State) → positionOf o s < 160 → Settled o s → DrawingSettled o (quietNext s)
 unfolding registersAfter objectsAfter clockOf
-drawing-stays P0 s h settled = player-stays (quietTick s) RESP0 HMP0 (copiesAt P0 s) (s .objects .p0) h (settled .age) (settled .drawing)
-drawing-stays P1 s h settled = player-stays (quietTick s) RESP1 HMP1 (copiesAt P1 s) (s .objects .p1) h (settled .age) (settled .drawing)
+drawing-stays P0 s h settled = player-stays (tickAt Nothing (s .timing)) RESP0 HMP0 (copiesAt P0 s) (s .objects .p0) h (settled .age) (settled .drawing)
+drawing-stays P1 s h settled = player-stays (tickAt Nothing (s .timing)) RESP1 HMP1 (copiesAt P1 s) (s .objects .p1) h (settled .age) (settled .drawing)
 drawing-stays M0 s h settled = tt
 drawing-stays M1 s h settled = tt
 drawing-stays BL s h settled = tt
 
 drawing-from-zero : (o : Movable) (s : State) → pulsed o s ≡ true → positionOf o s ≡ 159 → DrawingSettled o (quietNext s)
 unfolding pulsedOn registersAfter objectsAfter clockOf
-drawing-from-zero P0 s hit last = player-from-zero (quietTick s) RESP0 HMP0 (copiesAt P0 s) (s .objects .p0) hit last
-drawing-from-zero P1 s hit last = player-from-zero (quietTick s) RESP1 HMP1 (copiesAt P1 s) (s .objects .p1) hit last
+drawing-from-zero P0 s hit last = player-from-zero (tickAt Nothing (s .timing)) RESP0 HMP0 (copiesAt P0 s) (s .objects .p0) hit last
+drawing-from-zero P1 s hit last = player-from-zero (tickAt Nothing (s .timing)) RESP1 HMP1 (copiesAt P1 s) (s .objects .p1) hit last
 drawing-from-zero M0 s hit last = tt
 drawing-from-zero M1 s hit last = tt
 drawing-from-zero BL s hit last = tt

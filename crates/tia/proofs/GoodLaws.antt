@@ -10,19 +10,19 @@ use Rattle.tia.specs.declared.object.Object.{Object}
 use Rattle.tia.specs.declared.registers.Registers.{Registers}
 use Rattle.tia.specs.declared.state.Objects.{Objects}
 use Rattle.tia.specs.declared.state.State.{State}
-use Rattle.tia.specs.declared.timing.Tick.{Tick}
 use Rattle.tia.specs.declared.timing.Timing.{Timing}
 use Rattle.tia.specs.declared.write.Write.{Write}
 use Rattle.tia.specs.Write.{ByteWritten, HMBL, HMM0, HMM1, HMP0, HMP1, RESBL, RESM0, RESM1, RESP0, RESP1, HMOVE, hits, unknown}
 use Rattle.tia.specs.Registers.{registersAfter}
 use Rattle.tia.specs.State.{timingInRange, objectsInRange, registersInRange, inRange, anyLive, badState}
-use Rattle.tia.specs.Timing.{timingWritten, comparing, tickOf, timingAfter}
+use Rattle.tia.specs.Timing.{timingWritten, comparing, timingAfter}
 use Rattle.tia.specs.Object.{equalSlot, objectWritten, objectMoved, objectAfter, playerAfter, missileAfter, ballAfter}
 use Rattle.tia.specs.Clock.{objectsAfter, clockOf}
 use Rattle.laws.specs.Numbers.{forUnknownRegister}
 use Rattle.tia.specs.Answers.{refusedClock, givenClock, clockAnswer}
 use Rattle.tia.proofs.StateLaws.{good-in-range, good-rest, good-by}
 use Rattle.tia.proofs.RangeLaws.{registers-stay, colours-stay, objects-stay, timing-stays}
+use Rattle.tia.proofs.TrackLaws.{tickAt}
 
 -- With slot 16 reached or kept no live flag is left: a flag falls with the last slot, and HMOVE, which sets it, starts at slot 0.
 rest-live :
@@ -38,10 +38,6 @@ rest-live false false live equal slot never rest e = rw (rest e)
 
 pub hmove-waits : (w : Write) (t : Timing) → hits w HMOVE ≡ true → comparing w t ≡ false
 hmove-waits w t e = rw (e, and-false, and-false)
-
--- The clock's tick from a state's timing.
-abbrev tickAt : Write → Timing → Tick
-tickAt w t = tickOf w (timingWritten w t)
 
 -- The slot after a clock.
 abbrev slotAfter : Write → Timing → ℕ

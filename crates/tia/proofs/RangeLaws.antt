@@ -143,23 +143,21 @@ object-stays :
 unfolding objectAfter
 object-stays k strobe hm copies w o ok = moved-stays k (hits w strobe) copies (objectWritten hm w o) (written-stays hm w o ok)
 
--- A size is 1, 2 or 4, and so at most 4.
-pub of-sizes : (test : ℕ → Bool) (copies : ℕ) → test 1 ≡ true → test 2 ≡ true → test 4 ≡ true → test (sizeOf copies) ≡ true
+-- A size is 1, 2 or 4: what holds of these holds of it.
+pub of-sizes : (P : ℕ → Type 0) (copies : ℕ) → P 1 → P 2 → P 4 → P (sizeOf copies)
 unfolding sizeOf
-of-sizes test copies one two four =
-    cond-passes
-    test
-    (eqb copies 5)
-    {x = 2}
-    {y = cond (eqb copies 7) 4 1}
-    two
-    (cond-passes test (eqb copies 7) {x = 4} {y = 1} four one)
+of-sizes P copies one two four = chosen-size (eqb copies 5) (eqb copies 7)
+  where
+    chosen-size : (double quadruple : Bool) → P (cond double 2 (cond quadruple 4 1))
+    chosen-size true quadruple = two
+    chosen-size false true = four
+    chosen-size false false = one
 
 size-taken : (copies : ℕ) → sizeInRange (sizeOf copies) ≡ true
-size-taken copies = of-sizes sizeInRange copies refl refl refl
+size-taken copies = of-sizes (λ size. sizeInRange size ≡ true) copies refl refl refl
 
 size-up-to : (copies : ℕ) → sizeOf copies ≤ 4
-size-up-to copies = leb-true (sizeOf copies) 4 (of-sizes (λ n. leb n 4) copies refl refl refl)
+size-up-to copies = leb-true (sizeOf copies) 4 (of-sizes (λ size. leb size 4 ≡ true) copies refl refl refl)
 
 -- A drawing: the next pixel is at most 8, and a pixel is shown again only as long as its clocks are below a size.
 gone-on-stays : (size : ℕ) (d : Drawing) → size ≤ 4 → drawingInRange d ≡ true → drawingInRange (goneOn size d) ≡ true

@@ -18,18 +18,21 @@ use Rattle.tia.specs.declared.state.State.{State}
 use Rattle.tia.specs.declared.timing.Tick.{Tick}
 use Rattle.tia.specs.declared.write.Write.{Write}
 use Rattle.tia.specs.Write.{HMP0, HMP1, RESP0, RESP1, hits}
-use Rattle.tia.specs.Timing.{timingWritten, tickOf}
 use Rattle.tia.specs.Drawing.{noDrawing, drawingAge, nextDrawing, shownBit, drawingLit}
 use Rattle.tia.specs.Object.{isPulsed, reached, older, starts, sizeOf, objectWritten, objectMoved, objectAfter, playerAfter}
 use Rattle.tia.specs.Clock.{objectsAfter, clockOf}
-use Rattle.tia.specs.Steady.{litByAge, PlayerName, Player0, Player1, playerOf, copiesOf, graphicOf, movedOn, afterClocks, CopiesAlways}
+use Rattle.tia.specs.Steady.{litBetween, litByAge, PlayerName, Player0, Player1, playerOf, copiesOf, graphicOf, movedOn, afterClocks, CopiesAlways}
 use Rattle.tia.specs.Steady.{LitByAge, LitAsDocument01}
 use Rattle.tia.proofs.RangeLaws.{of-sizes}
+use Rattle.tia.proofs.TrackLaws.{tickAt}
 use Rattle.tia.proofs.DrawLaws.{drawnOn, size-kept}
 
 -- The drawing of a copy at an age, where its size stays: the pixel by the columns since the first, and how often it was shown.
+abbrev lastAge : (size : ℕ) → ℕ
+lastAge size = drawingAge size + 8 * size - 1
+
 abbrev isDrawn : (size age : ℕ) → Bool
-isDrawn size age = leb (drawingAge size) age && leb age (drawingAge size + 8 * size - 1)
+isDrawn size age = leb (drawingAge size) age && leb age (lastAge size)
 
 unfoldable drawingAt : (size age : ℕ) → Drawing
 drawingAt size age =
@@ -45,7 +48,7 @@ goesOn size age = equalDrawings (nextDrawing false (older age) size size (drawin
 
 all-go-on : (copies : ℕ) → everyBelow 65 (goesOn (sizeOf copies)) ≡ true
 unfolding goesOn nextDrawing drawingAt
-all-go-on copies = of-sizes (λ size. everyBelow 65 (goesOn size)) copies refl refl refl
+all-go-on copies = of-sizes (λ size. everyBelow 65 (goesOn size) ≡ true) copies refl refl refl
 
 same-drawing : (d e : Drawing) → equalDrawings d e ≡ true → d ≡ e
 same-drawing d e t =
@@ -65,11 +68,11 @@ late-age : (copies age : ℕ) → 64 ≤ age → drawingAt (sizeOf copies) age �
 unfolding drawingAt
 late-age copies age late = rw (past age late, past 64 (omega arith))
   where
-    last : drawingAge (sizeOf copies) + 8 * sizeOf copies - 1 < 64
-    last = ltb-true _ 64 (of-sizes (λ size. ltb (drawingAge size + 8 * size - 1) 64) copies refl refl refl)
+    last : lastAge (sizeOf copies) < 64
+    last = ltb-true _ 64 (of-sizes (λ size. ltb (lastAge size) 64 ≡ true) copies refl refl refl)
 
     past : (n : ℕ) → 64 ≤ n → isDrawn (sizeOf copies) n ≡ false
-    past n h = rw (lt-leb n (drawingAge (sizeOf copies) + 8 * sizeOf copies - 1) (omega (arith, last, h)), and-false)
+    past n h = rw (lt-leb n (lastAge (sizeOf copies)) (omega (arith, last, h)), and-false)
 
 older-late : (age : ℕ) → 64 ≤ age → older age ≡ older 64
 older-late age late = rw (le-ltb age 64 late)
@@ -135,22 +138,19 @@ steady-from-start k strobe hm copies w p size e start =
 abbrev SizeStays : PlayerName → ℕ → State → List Write → Type 0
 SizeStays q size s ws = CopiesAlways q (λ copies. sizeOf copies ≡ size) s ws
 
-abbrev tickAt : State → Write → Tick
-tickAt s w = tickOf w (timingWritten w (s .timing))
-
 clock-goes-on :
     (q : PlayerName) (s : State) (w : Write) (size : ℕ) → sizeOf (copiesOf q (clockOf s w .state)) ≡ size → Steady size (playerOf q s) →
     Steady size (playerOf q (clockOf s w .state))
 unfolding clockOf objectsAfter
-clock-goes-on Player0 s w size e steady = steady-goes-on (tickAt s w) RESP0 HMP0 _ w (s .objects .p0) size e steady
-clock-goes-on Player1 s w size e steady = steady-goes-on (tickAt s w) RESP1 HMP1 _ w (s .objects .p1) size e steady
+clock-goes-on Player0 s w size e steady = steady-goes-on (tickAt w (s .timing)) RESP0 HMP0 _ w (s .objects .p0) size e steady
+clock-goes-on Player1 s w size e steady = steady-goes-on (tickAt w (s .timing)) RESP1 HMP1 _ w (s .objects .p1) size e steady
 
 clock-starts :
     (q : PlayerName) (s : State) (w : Write) (size : ℕ) → sizeOf (copiesOf q (clockOf s w .state)) ≡ size → movedOn q s w .started ≡ true →
     Steady size (playerOf q (clockOf s w .state))
 unfolding clockOf objectsAfter
-clock-starts Player0 s w size e start = steady-from-start (tickAt s w) RESP0 HMP0 _ w (s .objects .p0) size e start
-clock-starts Player1 s w size e start = steady-from-start (tickAt s w) RESP1 HMP1 _ w (s .objects .p1) size e start
+clock-starts Player0 s w size e start = steady-from-start (tickAt w (s .timing)) RESP0 HMP0 _ w (s .objects .p0) size e start
+clock-starts Player1 s w size e start = steady-from-start (tickAt w (s .timing)) RESP1 HMP1 _ w (s .objects .p1) size e start
 
 clocks-go-on :
     (q : PlayerName) (size : ℕ) (s : State) (ws : List Write) → SizeStays q size s ws → Steady size (playerOf q s) →
@@ -169,7 +169,8 @@ steady-after q size s w ws start stays =
 pixel-below : (a size : ℕ) → a < 8 * size → a / size < 8
 pixel-below a size h = div-lt-iff-lt-mul {k = size} {x = a} {y = 8} (omega arith) .1 h
 
-drawing-lit : (g : Graphic) (size age : ℕ) → drawingLit g (drawingAt size age) ≡ litByAge g size age
+drawing-lit :
+    (g : Graphic) (size age : ℕ) → drawingLit g (drawingAt size age) ≡ litBetween g size (drawingAge size) (lastAge size) age
 unfolding drawingLit drawingAt
 drawing-lit g size age = by-test (isDrawn size age) refl
   where
@@ -179,7 +180,7 @@ drawing-lit g size age = by-test (isDrawn size age) refl
     within : isDrawn size age ≡ true → column < 8 * size
     within e =
         let first = leb-true (drawingAge size) age (and-first (leb (drawingAge size) age) _ e) in
-        let last = leb-true age (drawingAge size + 8 * size - 1) (and-second (leb (drawingAge size) age) _ e) in
+        let last = leb-true age (lastAge size) (and-second (leb (drawingAge size) age) _ e) in
         omega (arith, first, last, first-above size)
 
     by-test :
@@ -188,12 +189,22 @@ drawing-lit g size age = by-test (isDrawn size age) refl
     by-test true e = rw (lt-ltb (column / size) 8 (pixel-below column size (within e)))
     by-test false e = refl
 
+lit-at-size : (g : Graphic) (copies size age : ℕ) → sizeOf copies ≡ size → drawingLit g (drawingAt size age) ≡ litByAge g size age
+lit-at-size g copies size age e =
+    rw (← e)
+    (of-sizes
+    (λ n. drawingLit g (drawingAt n age) ≡ litByAge g n age)
+    copies
+    (drawing-lit g 1 age)
+    (drawing-lit g 2 age)
+    (drawing-lit g 4 age))
+
 -- The two claims.
 pub lit-by-age : LitByAge
 lit-by-age q size s w ws start stays =
     let end = afterClocks s (w ∷ ws) in
-    let p = playerOf q end in
-    ap (drawingLit (graphicOf q end)) (steady-after q size s w ws start stays .1) ∙ drawing-lit (graphicOf q end) size (p .body .age)
+    let g = graphicOf q end in
+    ap (drawingLit g) (steady-after q size s w ws start stays .1) ∙ lit-at-size g _ size (playerOf q end .body .age) (stays .0)
 
 size-one : (copies : ℕ) → (eqb copies 5 || eqb copies 7) ≡ false → sizeOf copies ≡ 1
 unfolding sizeOf

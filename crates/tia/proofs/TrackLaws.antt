@@ -1,6 +1,6 @@
 -- One object's track through a clock: the timing, its motion value and live flag, which make its pulses, and its position.
 use mathlib.Core.Path.{_≡_, refl}
-use mathlib.Core.Bool.{Bool, false, cond, _&&_, not, or-false}
+use mathlib.Core.Bool.{Bool, false, cond, not, or-false}
 use Prim.Native.Nat.{ℕ, _+_, _%_}
 use Rattle.tia.specs.declared.object.Object.{Object}
 use Rattle.tia.specs.declared.state.State.{State}
@@ -27,7 +27,8 @@ trackOf o s = record { timing = s .timing; motion = bodyOf o (s .objects) .motio
 abbrev anywhere : ℕ → Write → Track → Object
 anywhere hm w t = objectWritten hm w (record { position = 0; age = 0; motion = t .motion; live = t .live })
 
-abbrev tickAt : Write → Timing → Tick
+-- A clock's tick, by its write and the timing before it.
+abbrev pub tickAt : Write → Timing → Tick
 tickAt w t = tickOf w (timingWritten w t)
 
 -- The timing and the track after a clock, and whether the object is pulsed on it.

@@ -1,7 +1,7 @@
 -- What request Two means while a player's size stays: it is lit by its age alone, and at size 1 exactly as document 01's rule lit it.
 use Prim.Native.Nat.{ℕ, _+_, _-_, _*_, _/_}
 use mathlib.Core.Path.{_≡_}
-use mathlib.Core.Bool.{Bool, true, false, _&&_, _||_}
+use mathlib.Core.Bool.{Bool, true, false, cond, _&&_, _||_}
 use mathlib.Core.List.{List, [], _∷_}
 use lib.Dec.{eqb, leb}
 use Rattle.tia.specs.declared.object.Moved.{Moved}
@@ -10,22 +10,25 @@ use Rattle.tia.specs.declared.registers.Graphic.{Graphic}
 use Rattle.tia.specs.declared.state.State.{State}
 use Rattle.tia.specs.declared.write.Write.{Write}
 use Rattle.tia.specs.Timing.{timingWritten, tickOf}
-use Rattle.tia.specs.Drawing.{drawingAge, shownBit}
+use Rattle.tia.specs.Drawing.{shownBit}
 use Rattle.tia.specs.Object.{sizeOf, objectAfter}
 use Rattle.tia.specs.Lit.{playerLit}
 use Rattle.tia.specs.Clock.{clockOf}
 use Rattle.tia.specs.Movable.{Movable, P0, P1, strobeOf, motionRegisterOf, bodyOf}
 
--- A copy of size 1, 2 or 4 lights its pixels at ages 5 to 12, 6 to 21 or 6 to 37, each pixel at size ages, one after another: that is
--- size columns wide where no blank and no extra pulse comes between.
+-- Lit from one age to another, each pixel at size ages, one after another: that is size columns wide where no blank and no extra pulse
+-- comes between.
+abbrev pub litBetween : Graphic → (size first last age : ℕ) → Bool
+litBetween g size first last age = (leb first age && leb age last) && shownBit g ((age - first) / size)
+
+-- A copy of size 1, 2 or 4 lights its pixels at ages 5 to 12, 6 to 21 or 6 to 37.
 abbrev pub litByAge : Graphic → (size age : ℕ) → Bool
-litByAge g size age =
-    let first = drawingAge size in
-    (leb first age && leb age (first + 8 * size - 1)) && shownBit g ((age - first) / size)
+litByAge g size =
+    cond (eqb size 1) (litBetween g 1 5 12) (cond (eqb size 2) (litBetween g 2 6 21) (litBetween g 4 6 37))
 
 -- Document 01's step 8, which the request replaces: lit at ages 5 to 4 + 8 x size, showing bit (age - 5) / size.
 abbrev pub litByDocument01 : Graphic → Player → Bool
-litByDocument01 g p = (leb 5 (p .body .age) && leb (p .body .age) (4 + 8 * p .size)) && shownBit g ((p .body .age - 5) / p .size)
+litByDocument01 g p = litBetween g (p .size) 5 (4 + 8 * p .size) (p .body .age)
 
 -- The two players by name: the player, its copies and its graphic in a state, and what a clock does to its object.
 pub data PlayerName : Type 0 where
