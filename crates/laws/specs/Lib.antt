@@ -3,3 +3,4 @@ pub mod Bits
 pub mod Numbers
 pub mod Refusal
 pub mod Steps
+pub mod Tables

@@ -1,0 +1,2 @@
+-- A card that is filled entry by entry.
+pub mod FillLaws

@@ -1,0 +1,2 @@
+-- The bytes that the program writes.
+pub mod CardBytes

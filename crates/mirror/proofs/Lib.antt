@@ -1,0 +1,2 @@
+-- The laws of the mirrored bytes.
+pub mod MirrorLaws

@@ -1,0 +1,2 @@
+-- The mirrored byte.
+pub mod Mirror
