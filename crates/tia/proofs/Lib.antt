@@ -62,5 +62,7 @@ pub mod Demand3Laws
 pub mod ApartLaws
 -- == A player whose size stays is lit by its age
 pub mod SteadyLaws
+-- == A reflected player is lit as an unreflected one with the looked-up graphic
+pub mod ReflectionLaws
 -- == Cases that are proved by running the definitions
 pub mod TableProofs

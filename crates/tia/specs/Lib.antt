@@ -22,8 +22,10 @@ pub mod Run
 pub mod Demand3
 pub mod Apart
 pub mod Steady
+pub mod Reflection
 pub mod Cases
 pub mod ColourCases
 pub mod StretchCases
+pub mod ReflectionCases
 pub mod RunCases
 pub mod PictureCases

@@ -6,6 +6,7 @@ ghost use Rattle.tia.specs.Drawing.{noDrawing, goneOn, nextDrawing, show
 use crate::choose::bit;
 use crate::choose::byte;
 use crate::registers::Graphic;
+use mirror::mirrored;
 
 // The pixel when none is shown.
 pub(crate) const NO_PIXEL: u8 = 8;
@@ -89,12 +90,16 @@ impl Drawing {
 }
 
 impl Graphic {
-    // Whether the graphic shows pixel n, counted from the left.
+    // Whether the graphic shows pixel n, counted from the left. A reflected one is looked up in the table of mirrored bytes, then read as one
+    // that is not.
     fn shown(self, n: u8) -> bool
         requires { ⌜ n < 8 ⌝ }
         ensures { λ r. ⌜ r ≡ shownBit self n ⌝ }
     {
         let graphic = byte(self.delayed, self.old, self.new);
-        bit(byte(self.reflected, n, 7 - n), graphic)
+        if self.reflected {
+            return bit(7 - n, mirrored(graphic));
+        }
+        bit(7 - n, graphic)
     }
 }
