@@ -1,5 +1,5 @@
-//! The command line of the second program: one command a report, the listing, the line bytes,
-//! the clock bytes, the repeated line, the test tapes.
+//! The command line of the second program: one command a report, the cards, the listing, the line
+//! bytes, the clock bytes, the repeated line, the test tapes.
 
 mod cases;
 mod coverage;
@@ -13,9 +13,9 @@ use cases::case::{Case, RunCase};
 use cases::record::cases_of;
 use cases::{chip_cases, sample};
 use model::input::bytes_of_input;
-use model::{clock_bytes, line_bytes, listing};
+use model::{card_bytes, clock_bytes, line_bytes, listing};
 use reports::failure::Failure;
-use reports::{chip_report, counter_report, demand3_report, repeat_line};
+use reports::{chip_report, counter_report, demand3_report, reflection_report, repeat_line};
 use std::env;
 use std::ffi::OsString;
 use std::io::{self, BufWriter, Read, Write};
@@ -27,11 +27,13 @@ use tapes::test_tapes;
 const USAGE: &str = "usage: second COMMAND
 commands:
   counter  the six-bit counter's answers for every byte
+  card_bytes  the counter's 63 values, then the 256 mirrored bytes (binary)
   chip_cases  the large case file of single clocks, walks, lines, runs and tapes (binary)
   chip_sample  a small case file with every kind of case and every outcome (binary)
   coverage  the table of what the cases of the large case file must make happen
   chip  the chip's answers for the cases of the case file on standard input
   demand3  how often demand 3 is checked on the runs of the case file on standard input
+  reflection  how often request Three's fact is checked on the cases of the case file on standard input
   listing  the listing of the tape on standard input
   line_bytes  the object bytes and colour bytes of each line of the tape on standard input (binary)
   clock_bytes  the state after each clock of a line, its number and tape on standard input (binary)
@@ -43,8 +45,9 @@ commands:
 type Run = fn(&[OsString], &mut dyn Read, &mut dyn Write) -> Result<(), Failure>;
 
 /// The commands: name, number of words after it, what is done.
-const COMMANDS: [(&str, usize, Run); 11] = [
+const COMMANDS: [(&str, usize, Run); 13] = [
     ("counter", 0, |_, _, out| Ok(counter_report::write(out)?)),
+    ("card_bytes", 0, |_, _, out| Ok(card_bytes::write(out)?)),
     ("chip_cases", 0, |_, _, out| chip_cases::write(out)),
     ("chip_sample", 0, |_, _, out| sample::write(out)),
     ("coverage", 0, |_, _, out| {
@@ -53,6 +56,9 @@ const COMMANDS: [(&str, usize, Run); 11] = [
     ("chip", 0, |_, input, out| chip_report::write(input, out)),
     ("demand3", 0, |_, input, out| {
         demand3_report::write(out, &runs_of(input)?)
+    }),
+    ("reflection", 0, |_, input, out| {
+        reflection_report::write(input, out)
     }),
     ("listing", 0, |_, input, out| {
         Ok(listing::write(input, out)?)

@@ -180,12 +180,15 @@ impl RunCase {
         RunCase { state, calls }
     }
 
-    /// Plays the run of the record with this number: its calls between two calls without writes
-    /// before and two after.
-    pub fn play(&self, number: usize) -> Vec<Played> {
+    /// The whole chain: the run's own calls between two calls without writes before and two after.
+    pub fn chain(&self) -> Vec<Call> {
         let quiet = vec![Call::with(&[]); QUIET_CALLS];
-        let chain = [&quiet[..], &self.calls, &quiet].concat();
-        play_chain(&self.state, &chain, number)
+        [&quiet[..], &self.calls, &quiet].concat()
+    }
+
+    /// Plays the whole chain of the record with this number.
+    pub fn play(&self, number: usize) -> Vec<Played> {
+        play_chain(&self.state, &self.chain(), number)
     }
 }
 

@@ -5,9 +5,10 @@ use crate::cases::drawings::{size_now, SIZES};
 use crate::coverage::seen::Seen;
 use crate::coverage::table::{named, Rows, Table, FEW, FLAGS, PLAYERS};
 use crate::model::drawing::{first_age, Drawing, NO_PIXEL};
-use crate::model::lit::graphic;
+use crate::model::lit::{graphic, is_set};
+use crate::model::mirror::mirrored;
 use crate::model::object::size_of_copies;
-use crate::model::registers::{register_at, Register};
+use crate::model::registers::Register;
 use crate::model::state::State;
 use crate::reports::demand3::{clocks_of, Line, LAST_HMOVE_CLOCK};
 
@@ -280,7 +281,7 @@ fn lit_pixels(rows: &mut Rows, n: usize) {
         rows.each(FEW, &name, FLAGS).when(move |seen, on| {
             let registers = &seen.after.registers;
             let shown = graphic(registers, n);
-            let differ = (shown ^ shown.reverse_bits()) >> pixel & 1 == 1;
+            let differ = is_set(shown ^ mirrored(shown), pixel);
             seen.lit(n, on)
                 && seen.after.drawings[n].pixel == pixel
                 && registers.refp[n] == reflected
@@ -297,21 +298,6 @@ fn over_the_line_end(rows: &mut Rows, n: usize) {
         let crosses = seen.clock.in_walk && seen.after.h == 0;
         crosses && written_size(seen, n) == size && both.into_iter().all(in_copy)
     });
-}
-
-/// The sizes that a player's NUSIZ asks for before and after a record of a line that writes it, the
-/// first of them being this before the line, with the record's clock.
-fn sizes_written(line: &Line, n: usize, first: u8) -> Vec<(u8, u8, u8)> {
-    let mut size = first;
-    let mut changes = Vec::new();
-    for record in line {
-        if register_at(record.write.address) == Some(Register::Nusiz(n)) {
-            let written = size_of_copies(record.write.value & 7);
-            changes.push((size, written, record.clock));
-            size = written;
-        }
-    }
-    changes
 }
 
 /// Accepted lines, and played ones: that begin and end within a copy of each size; that begin so and
@@ -345,17 +331,13 @@ fn lines(rows: &mut Rows, of: &str, n: usize) {
     for (before, after) in size_changes() {
         let name = format!("{of} lit on both sides of NUSIZ written, size {before} to {after}");
         rows.row(FEW, &name).when(move |seen| {
-            let lit = |column: usize| seen.line.buffer[column] & (0b1100_0000 | 1 << n) == 1 << n;
-            let between = |clock: u8| {
-                let column = usize::from(clock.max(68)) - 68;
-                column > 0 && lit(column - 1) && lit(column)
-            };
             let first = size_now(&seen.given.registers, n);
+            let size = |value| size_of_copies(value & 7);
+            let changes = seen.values_held(Register::Nusiz(n), first, size);
             let is = |change: &(u8, u8, u8)| {
-                (change.0, change.1) == (before, after) && between(change.2)
+                (change.0, change.1) == (before, after) && seen.lit_around(n, change.2)
             };
-            let mut lines = seen.accepted_lines();
-            lines.any(|line| sizes_written(line, n, first).iter().any(is))
+            changes.iter().any(is)
         });
     }
 }
@@ -384,7 +366,6 @@ fn runs(rows: &mut Rows, of: &str, n: usize) {
 #[cfg(test)]
 mod tests {
     use super::*;
-    use crate::cases::build_lists::records_of;
     use crate::cases::random::Random;
     use crate::cases::single_cases::{other, GROUPS};
 
@@ -412,12 +393,5 @@ mod tests {
         for which in [NoPulse, Start, Begins, Next, Again, Ends, Stays] {
             assert!(turns.contains(&which));
         }
-    }
-
-    #[test]
-    fn sizes_written_follow_one_another() {
-        let line = records_of(&[(9, 0x05, 7), (70, 0x04, 0x35), (71, 0x1B, 7), (80, 0x04, 3)]);
-        assert_eq!(sizes_written(&line, 0, 4), [(4, 2, 70), (2, 1, 80)]);
-        assert_eq!(sizes_written(&line, 1, 1), [(1, 4, 9)]);
     }
 }

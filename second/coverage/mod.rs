@@ -4,6 +4,7 @@
 mod colours;
 mod drawings;
 mod lines;
+mod reflection;
 mod refusals;
 mod runs;
 mod seen;
@@ -18,12 +19,13 @@ use table::Table;
 /// The whole table.
 fn table() -> Table {
     let mut table = Table::default();
-    let all: [fn(&mut Table); 7] = [
+    let all: [fn(&mut Table); 8] = [
         refusals::add,
         steps::add,
         lines::add,
         colours::add,
         drawings::add,
+        reflection::add,
         runs::add,
         tapes::add,
     ];
@@ -158,6 +160,25 @@ mod tests {
         assert!(accepted.accepted() && accepted.wrote(Register::Hmove));
         let columns = (accepted.first_column(5), accepted.first_column(0));
         assert_eq!(columns, (Some(32), None));
+    }
+
+    #[test]
+    fn what_a_register_holds_goes_from_record_to_record_of_an_accepted_line() {
+        let writes = [(9, 0x05, 7), (70, 0x04, 0x35), (71, 0x1B, 7), (80, 0x04, 3)];
+        let held = |seen: &Seen, n| seen.values_held(Register::Nusiz(n), 9, |value| value & 7);
+        assert_eq!(held(&line(&writes), 0), [(9, 5, 70), (5, 3, 80)]);
+        assert_eq!(held(&line(&writes), 1), [(9, 7, 9)]);
+        assert_eq!(held(&line(&[(9, 0x05, 7), (9, 0x05, 6)]), 1), []);
+    }
+
+    #[test]
+    fn lit_around_a_clock_is_lit_in_its_column_and_the_one_before() {
+        let seen = line(&[(0, 0x0D, 0x10), (200, 0x0D, 0)]);
+        let clocks: Vec<u8> = (0..228)
+            .filter(|&clock| seen.lit_around(5, clock))
+            .collect();
+        assert_eq!(clocks, [69, 70, 71, 149, 150, 151]);
+        assert!((0..228).all(|clock| !seen.lit_around(4, clock)));
     }
 
     #[test]

@@ -5,11 +5,11 @@ use crate::cases::build_tapes::line_places;
 use crate::cases::case::{Call, LineCase, Played, RunCase, TapeCase};
 use crate::cases::spoil::ReadingFault;
 use crate::model::clock::{run, Done, RegisterWrite};
-use crate::model::first_lit::first_lit;
+use crate::model::first_lit::{first_lit, shows};
 use crate::model::line_faults::{line_faults, Lengths};
 use crate::model::object::is_start;
 use crate::model::refusal::Refusal;
-use crate::model::registers::Register;
+use crate::model::registers::{register_at, Register};
 use crate::model::state::{State, NO_MOTION};
 use crate::model::tape::{read, stretch, Reading, FIRST_PLACE, VERSION};
 use crate::model::write_list::{records, ListedWrite};
@@ -238,6 +238,33 @@ impl Seen {
         let by_clock = self.clock.done.as_ref().and_then(|done| done.register);
         let in_line = |line: &Line| !clocks_of(line, register).is_empty();
         by_clock == Some(register) || self.accepted_lines().any(in_line)
+    }
+
+    /// What a register holds before and after each record of the accepted lines that writes it, with
+    /// the record's clock: this before the first, then what is kept of the values.
+    pub fn values_held<T: Copy>(
+        &self,
+        register: Register,
+        first: T,
+        kept: fn(u8) -> T,
+    ) -> Vec<(T, T, u8)> {
+        let mut held = first;
+        let mut changes = Vec::new();
+        for record in self.accepted_lines().flatten() {
+            if register_at(record.write.address) == Some(register) {
+                let written = kept(record.write.value);
+                changes.push((held, written, record.clock));
+                held = written;
+            }
+        }
+        changes
+    }
+
+    /// Whether an object is lit in the column of a clock and in the one before it.
+    pub fn lit_around(&self, object: usize, clock: u8) -> bool {
+        let column = usize::from(clock.max(68)) - 68;
+        let lit = |column: usize| shows(self.line.buffer[column], object as u8);
+        column > 0 && lit(column - 1) && lit(column)
     }
 
     /// The first lit column of an object in the buffer; none if it has not 160 bytes.

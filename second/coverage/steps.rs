@@ -7,6 +7,7 @@ use crate::coverage::table::{named, Rows, Table, FEW, FLAGS, MOVABLE, OBJECTS, P
 use crate::model::drawing::{first_age, NO_PIXEL};
 use crate::model::latches::{lit_together, PAIRS};
 use crate::model::lit::{at_lit_age, enabled, graphic, width};
+use crate::model::mirror::mirrored;
 use crate::model::object::{is_start, BL, NAMES, PF};
 use crate::model::registers::{Register, KNOWN};
 use crate::model::state::{State, NO_MOTION};
@@ -246,7 +247,7 @@ fn players_lit(rows: &mut Rows) {
                 seen.lit(n, true)
                     && seen.after.sizes[n] == size
                     && registers.refp[n] == reflected
-                    && shown != shown.reverse_bits()
+                    && shown != mirrored(shown)
                     && registers.vdelp[n] == old
                     && registers.grp_new[n] != registers.grp_old[n]
             });

@@ -8,7 +8,7 @@ use std::fmt;
 const NO_SUCH: Refusal = Refusal::without_record(10);
 
 /// The greatest count: 63 values, counted from 0.
-const LAST_COUNT: u8 = 62;
+pub const LAST_COUNT: u8 = 62;
 
 /// A counter value as the paper writes it: six characters 0 or 1, the leftmost bit first.
 #[derive(Clone, Copy, Debug, PartialEq, Eq)]

@@ -1,5 +1,5 @@
-//! The model: the chip of document 01 with the colour of document 02, request One, and its stretched
-//! players, request Two, to be read with the papers in this order.
+//! The model: the chip of document 01 with the colour of document 02, request One, its stretched
+//! players, request Two, and its mirrored bytes, request Three, to be read with the papers in this order.
 //!
 //! - `refusal`: a refusal's number and record index (Refusal numbers, the closing sentence).
 //! - `counter`: The six-bit counter, with refusal 10 of its calls.
@@ -11,6 +11,7 @@
 //! - `clock`: One clock, steps 1 to 11 in order, step 6 with request Two, with refusals 1 and 7 of a
 //!   single clock.
 //! - `lit`: steps 8, with request Two, and 9, what is lit.
+//! - `mirror`: request Three, a byte mirrored.
 //! - `colour`: request One, the colour of a column.
 //! - `latches`: the pairs of step 10 and the latch read-out.
 //! - `write_list`: A line and a tape, the write list's length and its records.
@@ -25,7 +26,9 @@
 //!   program, it is there to compare with.
 //! - `clock_bytes`: what the state holds after each clock of one line of a tape, raw; the papers have
 //!   no such program either.
+//! - `card_bytes`: the values of the counter and the mirrored bytes, raw; nor such a one.
 
+pub mod card_bytes;
 pub mod clock;
 pub mod clock_bytes;
 pub mod colour;
@@ -39,6 +42,7 @@ pub mod line_bytes;
 pub mod line_faults;
 pub mod listing;
 pub mod lit;
+pub mod mirror;
 pub mod object;
 pub mod refusal;
 pub mod registers;

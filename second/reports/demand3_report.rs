@@ -2,9 +2,9 @@
 //! each false claim and each number of 0.
 
 use crate::cases::case::RunCase;
-use crate::model::object::NAMES;
-use crate::reports::demand3::{Finding, PlayedRun};
+use crate::reports::demand3::PlayedRun;
 use crate::reports::failure::Failure;
+use crate::reports::totals::{self, claims_text};
 use std::io::Write;
 
 /// The names of the totals.
@@ -18,7 +18,7 @@ const TOTALS: [&str; 3] = [
 /// with the claims that are false, then the totals that are 0, a line each.
 pub fn write(out: &mut dyn Write, runs: &[(usize, RunCase)]) -> Result<(), Failure> {
     let mut totals = [[0; 5]; 3];
-    let mut faults = String::new();
+    let mut false_claims = String::new();
     for (number, run) in runs {
         let played = PlayedRun::new(*number, run);
         for object in 0..5 {
@@ -27,39 +27,13 @@ pub fn write(out: &mut dyn Write, runs: &[(usize, RunCase)]) -> Result<(), Failu
                 for (total, counted) in totals.iter_mut().zip(counted) {
                     total[object] += u32::from(counted);
                 }
-                faults += &claims_text(*number, object, &finding);
+                let run = format!("run {number}");
+                false_claims += &claims_text(&finding.false_claims, object, &run);
             }
         }
     }
-    let (text, zeros) = totals_text(&totals);
-    out.write_all(text.as_bytes())?;
-    match faults + &zeros {
-        faults if faults.is_empty() => Ok(()),
-        faults => Err(Failure::Named(faults)),
-    }
-}
-
-/// A line for each false claim of a finding.
-fn claims_text(number: usize, object: usize, finding: &Finding) -> String {
-    let text = |claim: &&str| format!("false: {} of {} in run {}\n", claim, NAMES[object], number);
-    finding.false_claims.iter().map(text).collect()
-}
-
-/// The totals by object, a line each after the heading; and a line for each that is 0.
-fn totals_text(totals: &[[u32; 5]; 3]) -> (String, String) {
-    let mut text = String::from("demand 3\n");
-    let mut zeros = String::new();
-    for (name, totals) in TOTALS.iter().zip(totals) {
-        text += name;
-        for (of, &total) in NAMES.iter().zip(totals) {
-            text += &format!(" {of} {total}");
-            if total == 0 {
-                zeros += &format!("missing: {name} of {of}\n");
-            }
-        }
-        text += "\n";
-    }
-    (text, zeros)
+    let named = TOTALS.into_iter().zip(totals);
+    totals::write(out, "demand 3", named, &false_claims)
 }
 
 #[cfg(test)]
@@ -90,16 +64,5 @@ mod tests {
                         missing: runs with a sum past column 0 of M0\n\
                         missing: runs with a sum past column 0 of M1\n";
         assert_eq!(failure, Err(Failure::Named(expected.to_string())));
-        assert_eq!(totals_text(&[[1; 5]; 3]).1, "");
-    }
-
-    #[test]
-    fn false_claims_are_named_with_their_object_and_run() {
-        let finding = Finding {
-            false_claims: vec!["position", "picture"],
-            ..Finding::default()
-        };
-        let expected = "false: position of M1 in run 17\nfalse: picture of M1 in run 17\n";
-        assert_eq!(claims_text(17, 3, &finding), expected);
     }
 }

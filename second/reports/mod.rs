@@ -6,5 +6,8 @@ pub mod demand3;
 pub mod demand3_report;
 pub mod digest;
 pub mod failure;
+pub mod reflection;
+pub mod reflection_report;
 pub mod repeat_line;
 pub mod texts;
+pub mod totals;

@@ -4,6 +4,7 @@
 pub mod playing;
 
 mod bench;
+mod card_bytes;
 mod clock;
 mod clock_bytes;
 mod colour;
@@ -12,6 +13,7 @@ mod input;
 mod line;
 mod listing;
 mod lit;
+mod mirror;
 mod read_outs;
 mod registers;
 mod replay;
