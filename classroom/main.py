@@ -12,7 +12,7 @@ from classroom.lines import CLOCKS, COLUMNS
 from classroom.registers import MOVABLE
 from classroom.terminal import CHOICES
 
-DESCRIPTION = """Shows, lists and draws tapes of the kit's video chip.
+DESCRIPTION = """Shows, lists and draws tapes of the kit's video chip, and prints the class's cards.
 FILE is a source (classroom/NOTATION.md), a tape, or - for standard input."""
 EXAMPLES = {
     "": """
@@ -42,6 +42,9 @@ EXAMPLES = {
     "disassemble": """
   ./glintstool disassemble lessons/03-printed-case.tape
   ./glintstool disassemble mine.tape -o mine.txt""",
+    "cards": """
+  ./glintstool cards
+  ./glintstool cards | lp                               on paper: three pages""",
 }
 STATUS = "exit status: 0; 1 where a file is wrong, no line was run, or the chip refuses the tape; 2 for a wrong command line"
 
@@ -78,6 +81,7 @@ def parser_of_all():
         ("step", "print the state after each clock of a line, for one object", step_options),
         ("assemble", "turn a source into a tape", assemble_options),
         ("disassemble", "turn a tape into a source", disassemble_options),
+        ("cards", "print the classroom cards: the counter's 63 values, and the 256 mirrored bytes", cards_options),
     ):
         one = new_parser(verb.add_parser, name, name, words[0].upper() + words[1:] + ".", help=words)
         options(one)
@@ -152,6 +156,10 @@ def disassemble_options(parser):
     """The options of disassemble."""
     parser.add_argument("file", nargs="?", default="-", metavar="TAPE", help="default: standard input, also as -")
     add_output(parser, "SOURCE", "default: standard output, also as -")
+
+
+def cards_options(parser):
+    """The options of cards: none."""
 
 
 def add_file(parser):

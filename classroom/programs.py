@@ -18,7 +18,7 @@ PROJECT = Path(__file__).resolve().parent.parent
 BIN = PROJECT / "target/bin"
 CRATES = PROJECT / "crates.txt"
 STAMPS = PROJECT / "target/stamp"  # of the crates that rt has proved
-PROGRAMS = ("line_bytes", "listing", "clock_bytes")
+PROGRAMS = ("line_bytes", "listing", "clock_bytes", "card_bytes")
 PROVED = re.compile(r"rt: (\w+) proved(?: \((\d+) s\))?")
 BAR = 24  # characters of the bar, with which a row has room on 80 columns
 NO_RT = "'rt' is missing: install the Rattle kit and put its bin folder on PATH; it proves and builds the programs"
@@ -47,6 +47,12 @@ def clock_bytes(tape, number):
     """The records of the clocks of a tape's line, as one string of bytes; none for a line that is not run. Fails with Failure."""
     build()
     return answer("clock_bytes", number.to_bytes(2, "big") + tape)
+
+
+def card_bytes():
+    """The bytes of both classroom cards. Fails with Failure."""
+    build()
+    return answer("card_bytes", b"")
 
 
 def answer(program, data):

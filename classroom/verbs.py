@@ -5,6 +5,7 @@ import shutil
 import sys
 
 from classroom import programs
+from classroom.cards import pages_of
 from classroom.command import Failure, check_binary, is_terminal, text_bytes, write_output
 from classroom.hints import hints
 from classroom.letters import WHOLE, Layout, fitting_layout, not_run, plain, shown
@@ -129,6 +130,17 @@ def disassemble(arguments):
     except TapeError as error:
         raise Failure(f"{given.title}: {error}") from None
     write_output(arguments.output, arguments.file, text.encode())
+    return 0
+
+
+def cards(arguments):
+    """Prints the classroom cards; where the output is no terminal, each page but the first begins with a form feed."""
+    try:
+        pages = pages_of(programs.card_bytes())
+    except ValueError as error:
+        raise Failure(f"target/bin/card_bytes: {error}") from None
+    between = "\n" if is_terminal(sys.stdout) else "\f"
+    write_output("-", "-", text_bytes(between.join("".join(f"{row}\n" for row in page) for page in pages)))
     return 0
 
 

@@ -18,6 +18,7 @@ from pathlib import Path
 sys.dont_write_bytecode = True
 
 from classroom import programs
+from classroom.cards import pages_of
 from classroom.lines import ending, lines_of, meaning
 from classroom.main import EXAMPLES, main
 from classroom.notation import assemble
@@ -26,10 +27,11 @@ from classroom.tests.cases import NO_LATCHES, RULER, SHOWN, TENS, read_terminal
 
 PROJECT = Path(__file__).resolve().parent.parent.parent
 COMMAND = [sys.executable, PROJECT / "glintstool"]
-BUILT = ("clock_bytes", "line_bytes", "listing")
+BUILT = ("card_bytes", "clock_bytes", "line_bytes", "listing")
 REFUSALS = (PROJECT / "docs/REFUSALS.md").read_text("utf-8")
 LESSONS = sorted((PROJECT / "lessons").glob("*.txt"))
-VERBS = ("look", "list", "picture", "page", "step", "assemble", "disassemble")
+VERBS = ("look", "list", "picture", "page", "step", "assemble", "disassemble")  # those that read a file
+ALL_VERBS = (*VERBS, "cards")
 SHOWING = {"look": [], "list": [], "picture": ["-o", "out"], "page": ["-o", "out"], "step": ["--line", "0"]}
 STATUS = "exit status: 0; 1 where a file is wrong, no line was run, or the chip refuses the tape; 2 for a wrong command line"
 CODES = re.compile("\x1b\\[[0-9;]*m")
@@ -107,6 +109,9 @@ MISTAKES = [
     (["step", "a"], "expected a line: add '--line' and its number, such as --line 0"),
     *(([verb, "a", *SHOWING.get(verb, []), "b"], f"glintstool {verb}: found 'b': expected nothing more") for verb in VERBS),
     *(([verb, "a", *SHOWING.get(verb, []), "--foo"], "found '--foo': expected one of the verb's options") for verb in VERBS),
+    (["cards", "b"], "glintstool cards: found 'b': expected nothing more"),
+    *each(["--foo", "-o", "--quiet"], "cards TEXT", "found 'TEXT': expected one of the verb's options"),
+    *each(["card"], "TEXT", "did you mean './glintstool cards'?"),
     *each(["--line", "--lin", "-o"], "look TEXT 1 a", "found 'TEXT': expected one of the verb's options"),
     *each(["--quiet"], "disassemble a TEXT", "found 'TEXT': expected one of the verb's options"),
     *each(["", "3-", "-3", "a", "1-2-3", "1,2", "٣"], "look --lines=TEXT a", f"argument --lines: found 'TEXT': {LINES_MISTAKE}"),
@@ -202,7 +207,7 @@ class Help(Case):
         return text
 
     def test_every_verb_has_examples_and_exit_status(self):
-        self.assertEqual(list(EXAMPLES), ["", *VERBS])
+        self.assertEqual(list(EXAMPLES), ["", *ALL_VERBS])
         for verb in EXAMPLES:
             words = [verb] if verb else []
             text = self.help_of(*words)
@@ -214,7 +219,7 @@ class Help(Case):
         self.assertEqual(text, self.text("help"))
         self.assertEqual(text, self.text("--help"))
         self.assertTrue(text.startswith("usage: glintstool [-h] VERB"))
-        for verb in VERBS:
+        for verb in ALL_VERBS:
             self.assertRegex(text, rf"\n    {verb}\s+[a-z]")
 
     def test_every_option_is_explained(self):
@@ -226,6 +231,7 @@ class Help(Case):
             "step": "--line --clocks --object --quiet",
             "assemble": "-o --quiet",
             "disassemble": "-o",
+            "cards": "",
         }
         for verb, names in options.items():
             text = self.help_of(verb).partition("examples:")[0]
@@ -237,26 +243,44 @@ class Help(Case):
             (self.folder / name).symlink_to(PROJECT / name)
         path = f"{Path(sys.executable).parent}:{os.environ['PATH']}"
         examples = [row.strip() for rows in EXAMPLES.values() for row in rows.splitlines() if row.strip()]
-        self.assertEqual(len(examples), 19)
+        self.assertEqual(len(examples), 21)
+        written = {}
         for row in examples:
             self.file("mine.txt", LONG)
             self.file("mine.tape", TAPE)
-            example = re.split("  +", row)[0].replace("VERB", "page").replace("| less", "| cat")
+            example = re.split("  +", row)[0].replace("VERB", "page").replace("| less", "| cat").replace("| lp", "| cat")
             self.assertTrue(example.startswith("./glintstool "), row)
             options = {"shell": True, "cwd": self.folder, "env": environment(PATH=path), "capture_output": True, "timeout": 60}
             done = subprocess.run(example, **options)
             told = done.stderr.decode().splitlines()
             self.assertEqual((done.returncode, [row for row in told if "hint: " not in row]), (0, []), example)
             output = re.search("-o ([^ ]+)", example)
-            self.assertTrue((self.folder / output[1]).stat().st_size if output else done.stdout, example)
-        self.assertEqual(assemble((self.folder / "mine.txt").read_text()), TAPE)
+            written[example] = (self.folder / output[1]).read_bytes() if output else done.stdout
+            self.assertTrue(written[example], example)
+        self.assertEqual(assemble(written["./glintstool disassemble mine.tape -o mine.txt"].decode()), TAPE)
+
+
+class Cards(Case):
+    def test_pages_begin_with_a_form_feed_but_the_first(self):
+        text = self.text("cards")
+        self.assertEqual(text.count("\f"), 2)
+        pages = text.split("\f")
+        self.assertEqual(pages, ["".join(f"{row}\n" for row in page) for page in pages_of(programs.card_bytes())])
+
+    def test_a_terminal_has_an_empty_row_instead(self):
+        ours, theirs = pty.openpty()
+        done = subprocess.run([*COMMAND, "cards"], stdout=theirs, stderr=subprocess.PIPE, timeout=60)
+        os.close(theirs)
+        text = read_terminal(ours).replace("\r\n", "\n")
+        self.assertEqual((done.returncode, done.stderr), (0, b""))
+        self.assertEqual(text, self.text("cards").replace("\f", "\n"))
 
 
 class Mistakes(Case):
     def test_each_is_told_with_where_to_read_on(self):
         for words, expected in MISTAKES:
             status, printed, errors = called(*words)
-            verb = f" {words[0]}" if words[0] in VERBS else ""
+            verb = f" {words[0]}" if words[0] in ALL_VERBS else ""
             self.assertEqual((status, printed), (2, ""), words)
             rows = errors.splitlines()
             self.assertEqual(len(rows), 2, rows)

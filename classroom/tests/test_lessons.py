@@ -12,6 +12,7 @@ from pathlib import Path
 from typing import NamedTuple
 
 from classroom import programs
+from classroom.cards import COUNTS
 from classroom.hints import hints
 from classroom.lines import BLANK, CLOCKS, COLUMNS, LATCHES, UNSHOWN, Line, lit
 from classroom.notation import assemble, parsed
@@ -22,7 +23,8 @@ PROJECT = Path(__file__).resolve().parent.parent.parent
 LESSONS = sorted((PROJECT / "lessons").glob("*.txt"))
 COLOURED = [lesson for lesson in LESSONS if "13" <= lesson.name < "16"]  # those that name colours on every line
 SIZES, STRETCHED = LESSONS[5], LESSONS[15]  # those that show the sizes of a player
-TRIED = [SIZES, *COLOURED, STRETCHED]  # those whose changes to try can be read here
+REFLECTED = LESSONS[16]
+TRIED = [SIZES, *COLOURED, STRETCHED, REFLECTED]  # those whose changes to try can be read here
 WITH_HINTS = ["09-refusal.txt", "11-blank-columns.txt"]  # those that show a late HMOVE on purpose
 COURSE = (PROJECT / "lessons/README.md").read_text("utf-8")
 
@@ -272,11 +274,12 @@ class Remarks(unittest.TestCase):
                 if not place.inside:
                     self.assertTrue(any(said.startswith("$") for _, said in claims(place.words)), f"{lesson.name}: {place.words}")
 
-    def test_every_column_that_a_stretched_player_lights_is_named(self):
-        text = STRETCHED.read_text("utf-8")
-        for place, line in zip(places(text), lines_run(text)):
-            named = [column for columns, _ in spans(place.words) for column in columns]
-            self.assertEqual(named, columns_lit(line, "P0"), place.words)
+    def test_every_column_that_a_stretched_or_reflected_player_lights_is_named(self):
+        for lesson in (STRETCHED, REFLECTED):
+            text = lesson.read_text("utf-8")
+            for place, line in zip(places(text), lines_run(text)):
+                named = [column for columns, _ in spans(place.words) for column in columns]
+                self.assertEqual(named, columns_lit(line, "P0"), place.words)
 
     def test_dark(self):
         dark = [(where, line) for where, words, line in each_line() if words.startswith("dark")]
@@ -325,7 +328,7 @@ class Commands(unittest.TestCase):
 
     def test_commands_of_the_course(self):
         commands = re.findall(r"^    (.*)$", section("Look at a lesson"), re.M) + re.findall(r"`(\./glintstool [^`]*)`", COURSE)
-        self.assertEqual(len(commands), 4)
+        self.assertEqual(len(commands), 5)
         for command in commands:
             words = [self.folder / word if word.startswith("mine.") else word for word in shlex.split(command)]
             done = subprocess.run(words, cwd=PROJECT, capture_output=True, text=True, check=True)
@@ -440,6 +443,33 @@ class Course(unittest.TestCase):
             new, _ = changed(text, f"write NUSIZ0 $00 at clock {clock} of line {line}")
             found += [clock] if columns_lit(lines_run(new)[line], "P0")[-1] == end else []
         self.assertEqual(found, [int(clock) for clock in answer])
+
+    def test_answer_17(self):
+        mirrored = programs.card_bytes()[COUNTS:]
+        own = [byte for byte, other in enumerate(mirrored) if byte == other]
+        (words,) = re.findall(r"^17\. Sixteen: ([^.]*)\.", COURSE, re.M)
+        self.assertEqual([int(byte, 16) for byte in re.findall(r"\$([0-9A-F]{2})", words)], own)
+        self.assertEqual(len(own), 16)
+
+
+class PrintedCards(unittest.TestCase):
+    def test_rows_of_the_card_in_the_lesson(self):
+        rows = re.findall(r"; the card: (.*)$", REFLECTED.read_text("utf-8"), re.M)
+        printed = subprocess.run(["./glintstool", "cards"], cwd=PROJECT, capture_output=True, text=True, check=True).stdout
+        self.assertEqual([printed.count(row) for row in rows], [1, 1])
+
+    def test_where_they_stand_in_the_program(self):
+        text = REFLECTED.read_text("utf-8")
+        table, reader = re.findall(r"crates/[\w/]+\.rt", text)
+        self.assertIn("const MIRRORED_BYTES: [u8; 256]", (PROJECT / table).read_text("utf-8"))
+        self.assertIn("mirrored(graphic)", (PROJECT / reader).read_text("utf-8"))
+        linked = re.findall(r"\]\(\.\./(crates/[^)]*)\)", section("Two cards to print"))
+        self.assertEqual(linked, ["crates/counter/src/count.rt", table, reader])
+
+    def test_the_bytes_for_a_rom(self):
+        (command,) = re.findall(r"`(target/bin/card_bytes [^`]*)`", section("Two cards to print"))
+        done = subprocess.run(command, shell=True, cwd=PROJECT, capture_output=True, check=True)
+        self.assertEqual(done.stdout, programs.card_bytes()[COUNTS:])
 
 
 class Scanline(unittest.TestCase):

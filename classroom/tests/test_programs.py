@@ -26,7 +26,7 @@ from classroom.tests.cases import read_terminal
 PROJECT = Path(__file__).resolve().parent.parent.parent
 SOURCE = "line\n 0 ENAM0 2\n 100 RESM0\nline\n"
 LISTING = "line P0 P1 M0 M1 BL PF\n0 - - - - - -\n1 - - 36 - - -\ncx 00 00 00 00 00 00 00 00\n"
-BUILT = ("clock_bytes", "line_bytes", "listing")
+BUILT = ("card_bytes", "clock_bytes", "line_bytes", "listing")
 OLD = 1_000_000_000  # a time long ago
 FIRST = re.compile(r"building the programs: (\d+) crates are proved first, which may take two minutes")
 LAST = re.compile(r"built in \d+ seconds")
@@ -35,12 +35,13 @@ AS_THEY_ARE = "the programs are older than their sources, and 'rt' is missing: t
 NO_END = "target/bin/listing: found {} at the listing's end: expected latches or a refusal"
 WAITING = "the programs are being built by another call: waiting for it"
 
-CHECK = "check line_bytes listing clock_bytes"
+CHECK = "check line_bytes listing clock_bytes card_bytes"
 
 # The programs' crates, in the order in which they are proved.
-CRATES = ("laws", "counter", "tia", "tape", "replay", "line_bytes", "listing_text", "listing", "clock_bytes")
+CRATES = ("laws", "counter", "mirror", "tia", "tape", "replay", "line_bytes", "listing_text", "listing", "clock_bytes", "card_bytes")
+COUNT = len(CRATES)
 PROVED = "".join(f"echo 'rt: {crate} proved (0 s)'\n" for crate in CRATES)
-INSTALLED = f"cp {PROJECT}/target/bin/* target/bin\necho 'rt: ok, 9 crates proved'\n"
+INSTALLED = f"cp {PROJECT}/target/bin/* target/bin\necho 'rt: ok, {COUNT} crates proved'\n"
 
 
 def interruptible():
@@ -227,22 +228,22 @@ class Building(Project):
         self.rt("echo rt: a note\n" + PROVED + INSTALLED)
         status, output, errors = self.run_command("list", "mine.txt")
         self.assertEqual((status, output), (0, LISTING))
-        self.assertEqual(FIRST.fullmatch(errors[0])[1], "9")
-        told = [f"  {number} of 9 crates proved: {crate}" for number, crate in enumerate(CRATES, start=1)]
+        self.assertEqual(FIRST.fullmatch(errors[0])[1], str(COUNT))
+        told = [f"  {number} of {COUNT} crates proved: {crate}" for number, crate in enumerate(CRATES, start=1)]
         self.assertEqual(errors[1:-1], told)
         self.assertRegex(errors[-1], LAST)
         self.assertEqual(self.calls(), [CHECK])
 
     def test_crates_that_are_unchanged_count(self):
         self.rt("echo 'rt: laws proved (unchanged since it was last proved)'\n" + INSTALLED)
-        self.assertEqual(self.run_command("list", "mine.txt")[2][1], "  1 of 9 crates proved: laws")
+        self.assertEqual(self.run_command("list", "mine.txt")[2][1], f"  1 of {COUNT} crates proved: laws")
 
     def test_each_crate_is_told_when_it_is_proved(self):
         go_on = self.fifo("go_on")
         self.rt(f"echo 'rt: laws proved (0 s)'\nread line < {go_on}\n" + INSTALLED)
         process = self.begin("list", "mine.txt")
         self.assertRegex(self.row_from(process.stderr), FIRST)
-        self.assertEqual(self.row_from(process.stderr), "  1 of 9 crates proved: laws")
+        self.assertEqual(self.row_from(process.stderr), f"  1 of {COUNT} crates proved: laws")
         go_on.write_text("\n")
         self.assertRegex(self.row_from(process.stderr), LAST)
         self.assertEqual(process.communicate(timeout=20)[0].decode(), LISTING)
@@ -272,7 +273,7 @@ class Building(Project):
             (stamps / name).write_text("")
         self.rt(f"test -e target/stamp/clock_bytes && exit\n{INSTALLED}")
         self.assertEqual(self.run_command("list", "mine.txt")[:2], (0, LISTING))
-        self.assertEqual(sorted(path.name for path in stamps.iterdir()), ["line_bytes", "listing", "tia"])
+        self.assertEqual(sorted(path.name for path in stamps.iterdir()), ["card_bytes", "line_bytes", "listing", "tia"])
 
     def test_a_build_that_leaves_no_program(self):
         self.rt(PROVED)
@@ -346,13 +347,13 @@ class Bar(Project):
         self.assertRegex(last, LAST)
         self.assertEqual(rest, "")
         states = [state.replace("\x1b[K", "") for state in drawn.split("\r")[1:]]
-        self.assertEqual(states[0], f"  [{'.' * 24}] 0 of 9 crates proved, 0 s")
-        self.assertRegex(states[-1], rf"\A  \[{'#' * 24}\] 9 of 9 crates proved, last clock_bytes, \d s\Z")
+        self.assertEqual(states[0], f"  [{'.' * 24}] 0 of {COUNT} crates proved, 0 s")
+        self.assertRegex(states[-1], rf"\A  \[{'#' * 24}\] {COUNT} of {COUNT} crates proved, last card_bytes, \d s\Z")
         for state in states:
-            self.assertRegex(state, r"\A  \[#*\.*\] \d of 9 crates proved(, last \w+)?, \d s\Z")
+            self.assertRegex(state, rf"\A  \[#*\.*\] \d+ of {COUNT} crates proved(, last \w+)?, \d s\Z")
         filled = [state.count("#") for state in states]
         self.assertEqual(sorted(filled), filled)
-        self.assertEqual(sorted(set(filled)), [24 * number // 9 for number in range(10)])
+        self.assertEqual(sorted(set(filled)), [24 * number // COUNT for number in range(COUNT + 1)])
         self.assertEqual({state.index("]") for state in states}, {27})
         self.assertLess(max(map(len, states)) + len("00"), 80)
 
@@ -370,7 +371,7 @@ class BrokenOff(Project):
         with open(alive, "rb", buffering=0) as pipe:
             self.assertEqual(self.row_from(pipe), "begun")
             self.assertRegex(self.row_from(process.stderr), FIRST)
-            self.assertEqual(self.row_from(process.stderr), "  1 of 9 crates proved: laws")
+            self.assertEqual(self.row_from(process.stderr), f"  1 of {COUNT} crates proved: laws")
             interrupt(process.pid)
             output, errors = process.communicate(timeout=20)
             self.assertTrue(select.select([pipe], [], [], 20)[0], "rt still runs")
@@ -433,6 +434,13 @@ class Failing(Project):
         self.program("clock_bytes", "head -c 38 /dev/zero")
         self.program("listing", f"cat <<'END'\n{LISTING}END")
         self.assert_fails("target/bin/clock_bytes: found 38 bytes: expected 228 records of 38", "step", "--line", "0", "mine.txt")
+
+    def test_cards_that_are_not_whole(self):
+        for count in (0, 318, 320):
+            self.program("card_bytes", f"head -c {count} /dev/zero")
+            self.assert_fails(f"target/bin/card_bytes: found {count} bytes: expected 319", "cards")
+        self.program("card_bytes", "exit 3")
+        self.assert_fails("target/bin/card_bytes failed with status 3", "cards")
 
     def test_a_program_that_is_none(self):
         self.program("listing", "")
