@@ -1,4 +1,4 @@
-"""Small wrong variants of Rattle code: one operator, constant, operand or condition of one function changed."""
+"""Small wrong variants of Rattle code: one operator, constant, operand or condition of one function changed, or an entry of a table."""
 
 import random
 import re
@@ -7,6 +7,8 @@ from dataclasses import dataclass
 FUNCTION = re.compile(r"^( *)(?:pub(?:\(crate\))? )?fn (\w+)\(([^)]*)\)")
 OWNER = re.compile(r"^impl (\w+) \{")
 CONSTANT = re.compile(r"^(?:pub(?:\(crate\))? )?const (\w+): (\w+) = (\w+);")
+TABLE = re.compile(r"^(?:pub(?:\(crate\))? )?const (\w+): \[u8; \w+\] = \[\n(.*?)^\];", re.M | re.S)
+ENTRY = re.compile(r"^    0b([01]+),$", re.M)
 FIELD = re.compile(r"^    (?:pub(?:\(crate\))? )?(\w+): ([\w\[\]; ]+),$")
 PARAMETER = re.compile(r"(\w+): (u8|u32|usize|bool)\b")
 TOKEN = re.compile(r"0x[0-9A-Fa-f]+|\d+|\w+|<=|>=|==|!=|<<|>>|=>|->|\+=|\.\.|::|[-+*/%&|!<>.]")
@@ -179,6 +181,23 @@ def of_constants(table):
     ]
 
 
+def of_tables(texts):
+    """The mutants of each table of bytes: two bits of an entry exchanged."""
+    return [
+        Mutant(file, f"const {table[1]}", text.count("\n", 0, entry.start()) + 1, "entry", *entry.span(1), entry[1], exchanged(entry[1]))
+        for file, text in texts.items()
+        for table in TABLE.finditer(text)
+        for entry in ENTRY.finditer(text, *table.span(2))
+        if len(set(entry[1])) > 1
+    ]
+
+
+def exchanged(bits):
+    """A string of bits with the first two that differ, side by side, exchanged."""
+    at = next(at for at in range(len(bits)) if bits[at] != bits[at + 1])
+    return bits[:at] + bits[at + 1] + bits[at] + bits[at + 2 :]
+
+
 def in_turn(made, seed):
     """The mutants of one function in a fixed random order that takes each kind of change in turn."""
     shuffled = sorted(made, key=lambda m: (m.start, m.new))
@@ -193,7 +212,7 @@ def in_turn(made, seed):
 
 
 def of_files(texts, seed):
-    """The mutants of every function and constant of some files (name to text): function to its mutants in turn."""
+    """The mutants of every function, constant and table of some files (name to text): function to its mutants in turn."""
     siblings, table = fields(texts), constants(texts)
     found = {}
     for file, text in texts.items():
@@ -202,6 +221,8 @@ def of_files(texts, seed):
             found.setdefault((file, body.name), []).extend(made)
     for mutant in of_constants(table):
         found[(mutant.file, mutant.function)] = [mutant]
+    for mutant in of_tables(texts):
+        found.setdefault((mutant.file, mutant.function), []).append(mutant)
     return {key: in_turn(made, f"{seed} {key}") for key, made in found.items()}
 
 

@@ -24,7 +24,7 @@ class Inputs(unittest.TestCase):
     def test_writes_of_each_case(self):
         run = bench()
         lists = {case: run.write_list(source) for case, source in run.CASES.items()}
-        self.assertEqual({case: len(writes) // 3 for case, writes in lists.items()}, {"idle": 0, "20 writes": 20})
+        self.assertEqual({case: len(writes) // 3 for case, writes in lists.items()}, {"idle": 0, "20 writes": 20, "reflected": 6})
         self.assertEqual(run.repeated(258, lists["20 writes"])[:7], bytes([0, 0, 1, 2, 0, 0x04, 0x13]))
 
 

@@ -13,6 +13,13 @@ from prover_log import judged
 PROJECT = Path(__file__).resolve().parent.parent
 SOURCE = """use crate::other::LIMIT;
 const LEAST: u8 = 4;
+const TABLE: [u8; 4] = [
+    0b000,
+    // A remark.
+    0b100,
+    0b011,
+    0b101,
+];
 pub struct Pair {
     pub one: u8,
     pub two: u8,
@@ -64,9 +71,20 @@ class Mutants(unittest.TestCase):
     def test_constants(self):
         self.assertEqual(changed("const LEAST"), {("constant", "const LEAST: u8 = 5;")})
 
+    def test_tables(self):
+        expected = {("entry", row) for row in ("0b010,", "0b101,", "0b011,")}
+        self.assertEqual(changed("const TABLE"), expected)
+
     def test_each_variant_differs(self):
         made = of_files({"a.rt": SOURCE}, 1)
         self.assertTrue(all(applied(m, SOURCE) != SOURCE for one in made.values() for m in one))
+
+    def test_every_entry_of_the_mirrored_bytes(self):
+        (file,) = (PROJECT / "crates/mirror/src").glob("mirrored_bytes.rt")
+        made = of_files({file.name: file.read_text("utf-8")}, 1)[(file.name, "const MIRRORED_BYTES")]
+        self.assertEqual(len({mutant.line for mutant in made}), 254)  # all but 0 and 255
+        for mutant in made:
+            self.assertEqual(sorted(mutant.old), sorted(mutant.new))
 
     def test_the_seed_decides(self):
         orders = [of_files({"a.rt": SOURCE}, seed)[("a.rt", "Pair::right")] for seed in (1, 1, 2)]
