@@ -10,10 +10,9 @@ from classroom import verbs
 from classroom.command import Failure
 from classroom.lines import CLOCKS, COLUMNS
 from classroom.registers import MOVABLE
-from classroom.tape_forms import FORMS
 from classroom.terminal import CHOICES
 
-DESCRIPTION = """Shows, lists, draws and moves tapes of the kit's video chip, and prints the class's cards.
+DESCRIPTION = """Shows, lists and draws tapes of the kit's video chip, and prints the class's cards.
 FILE is a source (classroom/NOTATION.md), a tape, or - for standard input."""
 EXAMPLES = {
     "": """
@@ -39,15 +38,10 @@ EXAMPLES = {
   ./glintstool step mine.txt --line 1 --object P0       a player: its pixels too, and for how long each is shown""",
     "assemble": """
   ./glintstool assemble mine.txt -o mine.tape
-  ./glintstool assemble --version 2 mine.txt -o box.tape
   ./glintstool assemble mine.txt | target/bin/listing""",
     "disassemble": """
   ./glintstool disassemble lessons/03-printed-case.tape
   ./glintstool disassemble mine.tape -o mine.txt""",
-    "move": """
-  ./glintstool move lessons/15-landscape.tape -o box.tape
-  ./glintstool move --to 2 mine.tape -o box.tape        not where mine.tape is of version 2
-  ./glintstool move mine.tape | ./glintstool look -     the same picture""",
     "cards": """
   ./glintstool cards
   ./glintstool cards | lp                               on paper: three pages""",
@@ -87,7 +81,6 @@ def parser_of_all():
         ("step", "print the state after each clock of a line, for one object", step_options),
         ("assemble", "turn a source into a tape", assemble_options),
         ("disassemble", "turn a tape into a source", disassemble_options),
-        ("move", "write a tape in its other version: 1 (clocks), or 2 (waits; a byte less for each line)", move_options),
         ("cards", "print the classroom cards: the counter's 63 values, and the 256 mirrored bytes", cards_options),
     ):
         one = new_parser(verb.add_parser, name, name, words[0].upper() + words[1:] + ".", help=words)
@@ -156,8 +149,6 @@ def assemble_options(parser):
     """The options of assemble."""
     parser.add_argument("file", nargs="?", default="-", metavar="SOURCE", help="default: standard input, also as -")
     add_output(parser, "TAPE", "default: standard output, also as -")
-    words = "the tape's version, 1 or 2 (default: the one that the source names, or 1)"
-    parser.add_argument("--version", type=version_named, metavar="N", help=words)
     add_quiet(parser)
 
 
@@ -165,16 +156,6 @@ def disassemble_options(parser):
     """The options of disassemble."""
     parser.add_argument("file", nargs="?", default="-", metavar="TAPE", help="default: standard input, also as -")
     add_output(parser, "SOURCE", "default: standard output, also as -")
-
-
-def move_options(parser):
-    """The options of move."""
-    words = "a tape or a source, told apart by what it holds (default: standard input, also as -)"
-    parser.add_argument("file", nargs="?", default="-", metavar="FILE", help=words)
-    add_output(parser, "TAPE", "default: standard output, also as -")
-    words = "move to version N, 1 or 2: a tape that is of version N already is refused (default: to the other one)"
-    parser.add_argument("--to", type=version_named, metavar="N", help=words)
-    add_quiet(parser, "print no hints on the source, and not how many bytes each version has")
 
 
 def cards_options(parser):
@@ -202,9 +183,9 @@ def add_pal(parser):
     parser.add_argument("--pal", action="store_true", help="the colours of a PAL television (default: NTSC)")
 
 
-def add_quiet(parser, words="print no hints on the source"):
+def add_quiet(parser):
     """Adds the silencing of hints."""
-    parser.add_argument("--quiet", action="store_true", help=words)
+    parser.add_argument("--quiet", action="store_true", help="print no hints on the source")
 
 
 def span_named(text, what, most=None):
@@ -250,11 +231,6 @@ def scale_named(text):
 def line_named(text):
     """The line that a text names. Fails with ArgumentTypeError."""
     return number_named(text, "a line", 0, 65535)
-
-
-def version_named(text):
-    """The version of a tape that a text names. Fails with ArgumentTypeError."""
-    return number_named(text, "a version", min(FORMS), max(FORMS))
 
 
 def choice_named(text):

@@ -5,7 +5,7 @@ import re
 from typing import NamedTuple
 
 from classroom.registers import LEFT_OUT, NAMES, REGISTERS, is_strobe, takes_motion
-from classroom.tape_forms import BEFORE, FORMS, MOST_BYTES, MOST_WRITES, RECORD, first_place, fits, pack, unpack
+from classroom.tape_forms import LENGTH, MOST_BYTES, MOST_WRITES, RECORD, pack, unpack
 
 LINE_END = re.compile("\r\n|\r|\n")
 WORD = re.compile("[^ \t\xa0]+")
@@ -40,12 +40,11 @@ class Wanted(NamedTuple):
 
 
 UNSIGNED_VALUE = "only the value of a motion register, such as HMM0, has a sign"
-CLOCK = Wanted("a clock", "'line', 'repeat', 'end', 'version' or a clock", "a clock has no sign", 0, 227, 255)
+CLOCK = Wanted("a clock", "'line', 'repeat', 'end' or a clock", "a clock has no sign", 0, 227, 255)
 ADDRESS = Wanted("an address", "an address", "an address has no sign", 0, 255, 255)
 VALUE = Wanted("a value", "a value", UNSIGNED_VALUE, 0, 255, 255)
 MOTION_VALUE = VALUE._replace(words="a motion value with its sign (-8 to +7) or a value")
 TIMES = Wanted("a number of times", "a number of times", "a number of times has no sign", 1, 32767, 32767)
-VERSION = Wanted("a version", "a version", "a version has no sign", min(FORMS), max(FORMS), max(FORMS))
 
 
 class SourceError(Exception):
@@ -91,36 +90,23 @@ def source_text(data):
         raise SourceError(line, message) from None
 
 
-class Source(NamedTuple):
-    """What a text describes: the version of its tape, and its scanlines, each a list of Written."""
-
-    version: int
-    lines: list
-
-
-def assemble(text, version=None):
-    """The tape that a text describes, of this version where one is asked for. Fails with SourceErrors, which has every line of the
-    text that is wrong."""
-    return packed(read(text, version))
+def assemble(text, version=1):
+    """The tape that a text describes. Fails with SourceErrors, which has every line of the text that is wrong."""
+    return packed(parsed(text), version)
 
 
 def parsed(text):
-    """The scanlines that a text describes. Fails as assemble does."""
-    return read(text).lines
-
-
-def read(text, version=None):
-    """What a text describes, for a tape of this version where one is asked for; repeats are expanded, and a scanline that is
-    repeated is the same list each time. Fails as assemble does."""
-    reader = Reader(version)
+    """The scanlines that a text describes, each a list of Written, repeats expanded: a scanline that is repeated is the same list
+    each time. Fails as assemble does."""
+    reader = Reader()
     for row, tokens in rows(text):
         reader.take(row, tokens)
-    return Source(reader.version, reader.scanlines())
+    return reader.scanlines()
 
 
-def packed(source):
-    """The tape of a source as read gives it."""
-    return pack(source.version, [[(clock, address, value) for _, clock, address, value in writes] for writes in source.lines])
+def packed(lines, version=1):
+    """The tape of scanlines as parsed gives them."""
+    return pack(version, [[(clock, address, value) for _, clock, address, value in writes] for writes in lines])
 
 
 def disassemble(tape):
@@ -129,8 +115,7 @@ def disassemble(tape):
     for number, writes in enumerate(unpack(tape)):
         text.append(f"line  ; {number}\n")
         text += [f"  {write_text(*write)}\n" for write in writes]
-    version = "" if tape[0] == 1 else f"version {tape[0]}\n"
-    return version + ("".join(text) or "; a tape of no lines\n")
+    return "".join(text) or "; a tape of no lines\n"
 
 
 def rows(text):
@@ -149,15 +134,11 @@ class Repeat(NamedTuple):
 
 
 class Reader:
-    """Reads the rows of a text one after another into scanlines, and keeps the first error of each row. The tape's version is the
-    one asked for, or else the text's."""
+    """Reads the rows of a text one after another into scanlines, and keeps the first error of each row."""
 
-    def __init__(self, version=None):
-        self.asked = version
-        self.version = version or 1
-        self.has_version = False  # whether the text has said it
+    def __init__(self):
         self.lines = []  # scanlines: the row of their 'line', and their writes
-        self.size = first_place(self.form)  # bytes of the tape; where they are too many, no repeat is expanded any more
+        self.size = 1  # bytes of the tape; where they are too many, no repeat is expanded any more
         self.repeats = []  # those not yet ended, the outermost first
         self.missing = "before the first 'line'"  # where a write would stand without a scanline; empty where it has one
         self.errors = {}  # messages by row
@@ -178,7 +159,7 @@ class Reader:
 
     def method(self, word):
         """What takes a row that begins with this word."""
-        words = {"line": self.take_line, "repeat": self.take_repeat, "end": self.take_end, "version": self.take_version}
+        words = {"line": self.take_line, "repeat": self.take_repeat, "end": self.take_end}
         return words.get(word, self.take_unknown if word[0].isalpha() else self.take_write)
 
     def scanlines(self):
@@ -189,22 +170,6 @@ class Reader:
             raise SourceErrors([SourceError(row, message) for row, message in sorted(self.errors.items())])
         return [writes for _, writes in self.lines]
 
-    @property
-    def form(self):
-        """The form of the tape."""
-        return FORMS[self.version]
-
-    def take_version(self, _, tokens):
-        """Takes the tape's version. Fails with ValueError, also after the first scanline or repeat, and the second time."""
-        if self.lines or self.repeats:
-            raise ValueError("found 'version' after a 'line' or 'repeat': write it before the first of them")
-        if self.has_version:
-            raise ValueError("found 'version' again: leave it out")
-        self.has_version = True
-        version = number_after("the tape's version", tokens, VERSION)
-        self.version = self.asked or version
-        self.size = first_place(self.form)
-
     def take_line(self, row, tokens):
         """Begins a scanline. Fails with ValueError."""
         self.begin(row)
@@ -214,7 +179,7 @@ class Reader:
         """Begins a repeat. Fails with ValueError; its lines then stand once."""
         self.missing = "after 'repeat'"
         self.repeats.append(Repeat(row, 1, len(self.lines), self.size))
-        self.repeats[-1] = self.repeats[-1]._replace(times=number_after("a number of times", tokens, TIMES))
+        self.repeats[-1] = self.repeats[-1]._replace(times=times_of(tokens))
 
     def take_end(self, _, tokens):
         """Ends the innermost repeat. Fails with ValueError where there is none."""
@@ -234,8 +199,7 @@ class Reader:
 
     def take_write(self, row, tokens):
         """Adds a write to the last scanline. Fails with ValueError, once for a missing scanline and once for one that is full."""
-        write = Written(row, *write_of(tokens, CLOCK._replace(limit=self.form.most_clock)))
-        self.check_clock(tokens[0], write.clock)
+        write = Written(row, *write_of(tokens))
         missing = self.missing
         if missing:
             self.begin(row)
@@ -249,22 +213,11 @@ class Reader:
         if len(writes) > MOST_WRITES:
             raise ValueError(f"found write number {MOST_WRITES + 1} of a line: expected at most {MOST_WRITES}")
 
-    def check_clock(self, token, clock):
-        """Fails with ValueError where the tape cannot hold the clock that this token writes after the one before it."""
-        writes = [] if self.missing else self.lines[-1][1]
-        before = writes[-1].clock if writes else BEFORE
-        if fits(self.form, before, clock):
-            return
-        if clock > before:
-            raise ValueError(out_of_range(token, CLOCK))
-        waits = f"a tape of version {self.version} holds the clocks between two writes, and so no write out of order"
-        raise ValueError(f"found clock {clock} after clock {before}: expected a higher one: {waits}")
-
     def begin(self, row):
         """Begins a scanline at this row."""
         self.lines.append((row, []))
         self.missing = ""
-        self.grow(row, self.form.ahead)
+        self.grow(row, LENGTH)
 
     def grow(self, row, count):
         """Adds so many bytes of this row to the tape's size; the first row that passes the limit is wrong."""
@@ -284,7 +237,7 @@ class Reader:
         body, size, room = self.lines[repeat.lines :], self.size - repeat.size, MOST_BYTES - self.size
         self.size += more * size
         if self.size > MOST_BYTES:
-            self.errors.setdefault(row_past(body, room % size, self.form.ahead), TOO_LONG)
+            self.errors.setdefault(row_past(body, room % size), TOO_LONG)
         else:
             self.lines += more * body
 
@@ -294,23 +247,22 @@ def is_comment(tokens):
     return tokens[0].startswith(COMMENTS) and NUMBER.fullmatch(plain(tokens[0])[0]) is None
 
 
-def row_past(lines, room, ahead):
-    """The row that passes so many bytes in the tape of these scanlines, which has more; ahead are those before a line's writes."""
+def row_past(lines, room):
+    """The row that passes so many bytes in the tape of these scanlines, which has more."""
     for begun, writes in lines:
-        for row, size in [(begun, ahead), *((write.row, RECORD) for write in writes)]:
+        for row, size in [(begun, LENGTH), *((write.row, RECORD) for write in writes)]:
             room -= size
             if room < 0:
                 return row
 
 
-def number_after(what, tokens, wanted):
-    """The wanted number after the word that begins a row, which is what this says. Fails with ValueError."""
+def times_of(tokens):
+    """How often a row that begins with 'repeat' repeats. Fails with ValueError."""
     if len(tokens) == 1:
-        word = tokens[0].lower()
-        raise ValueError(f"found '{word}' alone: expected {what} after it, from {wanted.least} to {wanted.most}")
-    number = number_of(tokens[1], wanted)
+        raise ValueError(f"found 'repeat' alone: expected a number of times after it, from {TIMES.least} to {TIMES.most}")
+    times = number_of(tokens[1], TIMES)
     nothing_after(tokens, 2)
-    return number
+    return times
 
 
 def nothing_after(tokens, count):
@@ -320,9 +272,9 @@ def nothing_after(tokens, count):
         raise ValueError(f"found {shown(tokens[count])} after {shown(before)}: {NOTHING_MORE}")
 
 
-def write_of(tokens, wanted):
-    """The write that a row's tokens describe: the wanted clock, address, value. Fails with ValueError."""
-    clock = number_of(tokens[0], wanted)
+def write_of(tokens):
+    """The write that a row's tokens describe: clock, address, value. Fails with ValueError."""
+    clock = number_of(tokens[0], CLOCK)
     if len(tokens) == 1:
         raise ValueError("found a clock alone: expected a register after it, such as HMM0")
     address = address_of(tokens[1])
@@ -392,14 +344,10 @@ def number_of(token, wanted):
     if NUMBER.fullmatch(token) is None:
         raise ValueError(f"found {shown(token)}: {instead(token, wanted)}")
     if not is_number(token, wanted):
-        raise ValueError(out_of_range(token, wanted))
+        binary = f"; in binary it is %{token}" if re.fullmatch("[01]{4,8}", token) else ""
+        expected = f"expected {wanted.name} from {wanted.least} to {wanted.most} (${wanted.most:02X}){binary}"
+        raise ValueError(f"found {shown(token)}: {expected}")
     return number_in(token)
-
-
-def out_of_range(token, wanted):
-    """The message on a token that writes another number than the wanted one."""
-    binary = f"; in binary it is %{token}" if re.fullmatch("[01]{4,8}", token) else ""
-    return f"found {shown(token)}: expected {wanted.name} from {wanted.least} to {wanted.most} (${wanted.most:02X}){binary}"
 
 
 def instead(token, wanted):
@@ -420,9 +368,9 @@ def is_number(token, wanted):
 
 
 def number_in(token):
-    """The number that a token writes; for one over 65535, some number over it."""
+    """The number that a token writes; for one over 32767, some number over it."""
     match = NUMBER.fullmatch(token)
-    digits = match[match.lastgroup].lstrip("0")[:17]  # these tell a number over 65535 in each base
+    digits = match[match.lastgroup].lstrip("0")[:16]  # these tell a number over 32767 in each base
     return int(digits or "0", BASES[match.lastgroup])
 
 

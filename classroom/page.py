@@ -20,7 +20,6 @@ from classroom.television import BLACK, Standard, palette_of, pixel_row, png
 FOLDER = Path(__file__).resolve().parent
 FRAME = 312  # lines of a television's picture: one of more is higher than the window, and its beam long
 LANES = 10  # rows of labels below a strip
-LAST_MARK = 255  # the clock at which a write is marked whose clock is higher
 CHARACTER = 2.2  # clocks that a character of a label takes where the page is narrow
 TOO_LONG = "tape too long"  # the listing's last line of a tape that is not run at all
 NO_LINE = "No line was run: the tape has none. In a source, each scanline begins with 'line'."
@@ -297,7 +296,7 @@ def mark(clock, label, place, is_fault):
     kinds = (("fault", is_fault), ("n", place.lane is None), ("e", place.ends))
     names = " ".join(name for name, holds in kinds if holds)
     kind = f' class="{names}"' if names else ""
-    return f'<i{kind} style="--c:{min(clock, LAST_MARK)};--l:{place.lane or 0}">{label}</i>'
+    return f'<i{kind} style="--c:{clock};--l:{place.lane or 0}">{label}</i>'
 
 
 def label_places(clocks, lengths, first=None):

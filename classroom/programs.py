@@ -18,8 +18,7 @@ PROJECT = Path(__file__).resolve().parent.parent
 BIN = PROJECT / "target/bin"
 CRATES = PROJECT / "crates.txt"
 STAMPS = PROJECT / "target/stamp"  # of the crates that rt has proved
-PROGRAMS = ("line_bytes", "listing", "clock_bytes", "card_bytes", "move_tape")
-MOVE_REFUSED = re.compile(r"refused \d+ record \d+")
+PROGRAMS = ("line_bytes", "listing", "clock_bytes", "card_bytes")
 PROVED = re.compile(r"rt: (\w+) proved(?: \((\d+) s\))?")
 BAR = 24  # characters of the bar, with which a row has room on 80 columns
 NO_RT = "'rt' is missing: install the Rattle kit and put its bin folder on PATH; it proves and builds the programs"
@@ -56,31 +55,15 @@ def card_bytes():
     return answer("card_bytes", b"")
 
 
-def move_tape(tape):
-    """A tape moved to the other version and no text; or no bytes and the row that refuses it. Fails with Failure."""
-    build()
-    done = run("move_tape", tape, stderr=subprocess.PIPE)
-    refused = done.stderr.decode("ascii", "replace").rstrip("\n")
-    if bool(done.stdout) == bool(refused) or refused and MOVE_REFUSED.fullmatch(refused) is None:
-        found = f"found {len(done.stdout)} bytes and {refused!r}"
-        raise Failure(f"target/bin/move_tape: {found}: expected a tape or a refusal")
-    return done.stdout, refused
-
-
 def answer(program, data):
     """What a built program writes for its input. Fails with Failure where it does not end well."""
-    return run(program, data).stdout
-
-
-def run(program, data, **more):
-    """A built program that has ended, run on its input with these options. Fails with Failure where it does not end well."""
     try:
-        done = subprocess.run([BIN / program], input=data, stdout=subprocess.PIPE, check=False, **more)
+        done = subprocess.run([BIN / program], input=data, stdout=subprocess.PIPE, check=False)
     except OSError as error:
         raise Failure(f"target/bin/{program}: {error.strerror}") from None
     if done.returncode != 0:
         raise Failure(f"target/bin/{program} failed with status {done.returncode}")
-    return done
+    return done.stdout
 
 
 def build():
@@ -142,7 +125,7 @@ def crates_of(programs):
 def prove():
     """Proves and builds the programs and says on standard error how far it is. Fails with Failure."""
     total = len(crates_of(PROGRAMS))
-    print(f"building the programs: {total} crates are proved first, which may take three minutes", file=sys.stderr)
+    print(f"building the programs: {total} crates are proved first, which may take two minutes", file=sys.stderr)
     begun = time.monotonic()
     command = ["rt", "check", *PROGRAMS]
     for program in missing():

@@ -4,12 +4,12 @@ import os
 from typing import NamedTuple, Optional
 
 from classroom.command import Failure, read_input, title_of
-from classroom.notation import SourceError, SourceErrors, packed, read, source_text
+from classroom.notation import SourceError, SourceErrors, packed, parsed, source_text
 
 TEXT_BYTES = 9  # no byte of a text is below; every tape has one, its version or the upper byte of a length
 UTF_16 = (b"\xff\xfe", b"\xfe\xff")  # how such a text begins
 RICH_TEXT = b"{\\rtf"
-NEITHER = "found neither a source nor a tape: a source is plain text, saved as UTF-8, and a tape begins with the byte 01 or 02"
+NEITHER = "found neither a source nor a tape: a source is plain text, saved as UTF-8, and a tape begins with the byte 01"
 MOST_ERRORS = 100  # rows of a wrong source that a message names
 
 
@@ -30,13 +30,12 @@ def input_of(name):
     return tape_input(name, title, data) if is_tape(data) else source_input(name, title, data)
 
 
-def source_of(name, version=None):
-    """The input of this name, which must be a source, its tape of this version where one is asked for. Fails as input_of does, and
-    where it is a tape."""
+def source_of(name):
+    """The input of this name, which must be a source. Fails as input_of does, and where it is a tape."""
     title, data = contents(name)
     if is_tape(data):
         raise Failure(f"{title}: found a tape: {instead('disassemble', 'source')}")
-    return source_input(name, title, data, version)
+    return source_input(name, title, data)
 
 
 def tape_of(name):
@@ -76,17 +75,16 @@ def tape_input(name, title, data):
     return Input(name, title, data, None, None)
 
 
-def source_input(name, title, data, version=None):
-    """The input that is a source of these bytes, its tape of this version where one is asked for. Fails with Failure, which has its
-    mistakes."""
+def source_input(name, title, data):
+    """The input that is a source of these bytes. Fails with Failure, which has its mistakes."""
     try:
         text = source_text(data)
-        source = read(text, version)
+        lines = parsed(text)
     except SourceError as error:
         raise Failure(mistakes(title, [error])) from None
     except SourceErrors as wrong:
         raise Failure(mistakes(title, wrong.errors)) from None
-    return Input(name, title, packed(source), text, source.lines)
+    return Input(name, title, packed(lines), text, lines)
 
 
 def mistakes(title, errors):

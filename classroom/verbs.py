@@ -9,7 +9,7 @@ from classroom.cards import pages_of
 from classroom.command import Failure, check_binary, is_terminal, text_bytes, write_output
 from classroom.hints import hints
 from classroom.letters import WHOLE, Layout, fitting_layout, not_run, plain, shown
-from classroom.lines import ending, is_coloured, meaning, record_at_fault
+from classroom.lines import ending, is_coloured, record_at_fault
 from classroom.notation import disassemble as source_of_tape
 from classroom.notation import write_text
 from classroom.page import PageInput
@@ -22,7 +22,6 @@ from classroom.terminal import has_colour, look_of
 
 REFUSALS = programs.PROJECT / "docs/REFUSALS.md"
 NO_LINE = "found no 'line': expected one for each scanline"
-MOVED_TOO_LONG = f"the moved tape has more than {MOST_BYTES:,} bytes: it cannot be shown or moved back; write fewer lines"
 ALL_BLACK = "every column drawn is black: write COLUBK, or the colour of an object that is lit (lesson 13)"
 
 
@@ -112,9 +111,10 @@ def step(arguments):
 def assemble(arguments):
     """Turns a source into a tape."""
     check_binary(arguments.output, "tape")
-    given = source_of(arguments.file, arguments.version)
+    given = source_of(arguments.file)
     give_hints(given, arguments.quiet)
-    hint_no_line(given, arguments.quiet)
+    if given.lines == []:
+        hint(f"{given.title}: hint: {NO_LINE}", arguments.quiet)
     write_output(arguments.output, arguments.file, given.tape)
     return 0
 
@@ -133,48 +133,6 @@ def disassemble(arguments):
     return 0
 
 
-def move(arguments):
-    """Moves a tape to the other version."""
-    check_binary(arguments.output, "tape")
-    given = input_of(arguments.file)
-    give_hints(given, arguments.quiet)
-    hint_no_line(given, arguments.quiet)
-    check_goal(given, arguments.to)
-    moved, refused = programs.move_tape(given.tape)
-    if refused:
-        raise not_moved(given, refused)
-    write_output(arguments.output, arguments.file, moved)
-    first, second = (len(tape) for tape in sorted([given.tape, moved]))  # by the version byte
-    hint(f"{given.title}: {first} bytes in version 1, {second} in version 2", arguments.quiet)
-    if len(moved) > MOST_BYTES:
-        hint(f"{given.title}: hint: {MOVED_TOO_LONG}", arguments.quiet)
-    return 0
-
-
-def check_goal(given, goal):
-    """Fails with Failure where a tape, unless it is too long to be moved, is of the version already that it is to be moved to."""
-    if given.tape[0] == goal and len(given.tape) <= MOST_BYTES:
-        advice = f"use the tape as it is, or leave '--to {goal}' out to move it to version {3 - goal}"
-        raise Failure(f"{given.title}: found a tape of version {goal}: expected another version (refusal 8): {advice}")
-
-
-def not_moved(given, refused):
-    """The Failure on a tape that is not moved: the program's row, what it means, and where the fault is."""
-    _, number, *_ = refused.split()
-    end = ending_of(programs.listing(given.tape).splitlines()[-1])
-    return Failure("\n".join([refused, meaning(number, refusals_text()), *fault_rows(given, end)]))
-
-
-def fault_rows(given, end):
-    """Where the fault of a tape or a source is; of a tape also the line and the write."""
-    record = record_at_fault(end)
-    if given.lines is not None or record is None:
-        return place_rows(given, end)
-    line = end.refused[1]
-    _, *write = writes_of(given)[line][record]
-    return [f"{given.title}: line {line}: {write_text(*write).strip()}"]
-
-
 def cards(arguments):
     """Prints the classroom cards; where the output is no terminal, each page but the first begins with a form feed."""
     try:
@@ -189,17 +147,11 @@ def cards(arguments):
 def ending_of(last):
     """What a listing's last line says. Fails with Failure on a line that ends no listing, or without docs/REFUSALS.md."""
     try:
-        return ending(last, refusals_text())
-    except ValueError as error:
-        raise Failure(f"target/bin/listing: {error}") from None
-
-
-def refusals_text():
-    """The text of docs/REFUSALS.md. Fails with Failure."""
-    try:
-        return REFUSALS.read_text("utf-8")
+        return ending(last, REFUSALS.read_text("utf-8"))
     except OSError as error:
         raise Failure(f"docs/REFUSALS.md: {error.strerror}") from None
+    except ValueError as error:
+        raise Failure(f"target/bin/listing: {error}") from None
 
 
 def standard_of(arguments):
@@ -218,7 +170,7 @@ def write_rows(rows):
 
 
 def hint(words, quiet):
-    """Tells a hint on standard error, or another remark, unless hints are silenced."""
+    """Tells a hint on standard error, unless hints are silenced."""
     if not quiet:
         tell([words])
 
@@ -227,13 +179,6 @@ def give_hints(given, quiet):
     """Tells the hints on a source, with file and row."""
     for row, message in hints(given.lines or []):
         hint(f"{given.title}:{row}: hint: {message}", quiet)
-
-
-def hint_no_line(given, quiet):
-    """Tells a hint on a source without a line."""
-    if given.lines == []:
-        hint(f"{given.title}: hint: {NO_LINE}", quiet)
-
 
 def writes_of(given):
     """The writes of each line of an input, run or not: row of the source or None, clock, address, value."""

@@ -1,5 +1,5 @@
 //! The command line of the second program: one command a report, the cards, the listing, the line
-//! bytes, the clock bytes, the moved tape, the repeated line, the test tapes.
+//! bytes, the clock bytes, the repeated line, the test tapes.
 
 mod cases;
 mod coverage;
@@ -13,10 +13,9 @@ use cases::case::{Case, RunCase};
 use cases::record::cases_of;
 use cases::{chip_cases, sample};
 use model::input::bytes_of_input;
-use model::{card_bytes, clock_bytes, line_bytes, listing, moves};
+use model::{card_bytes, clock_bytes, line_bytes, listing};
 use reports::failure::Failure;
-use reports::{both_forms_report, chip_report, counter_report, demand3_report};
-use reports::{reflection_report, repeat_line};
+use reports::{chip_report, counter_report, demand3_report, reflection_report, repeat_line};
 use std::env;
 use std::ffi::OsString;
 use std::io::{self, BufWriter, Read, Write};
@@ -29,17 +28,15 @@ const USAGE: &str = "usage: second COMMAND
 commands:
   counter  the six-bit counter's answers for every byte
   card_bytes  the counter's 63 values, then the 256 mirrored bytes (binary)
-  chip_cases  the large case file of single clocks, walks, lines, runs, tapes, moves and checks (binary)
+  chip_cases  the large case file of single clocks, walks, lines, runs and tapes (binary)
   chip_sample  a small case file with every kind of case and every outcome (binary)
   coverage  the table of what the cases of the large case file must make happen
   chip  the chip's answers for the cases of the case file on standard input
   demand3  how often demand 3 is checked on the runs of the case file on standard input
   reflection  how often request Three's fact is checked on the cases of the case file on standard input
-  both_forms  how often request Four's facts are checked on the test tapes and the cases of moves
   listing  the listing of the tape on standard input
   line_bytes  the object bytes and colour bytes of each line of the tape on standard input (binary)
   clock_bytes  the state after each clock of a line, its number and tape on standard input (binary)
-  move  the tape on standard input in the other version (binary)
   repeat_line  the two buffers after as many line calls as standard input asks for (binary)
   tapes DIR  the test tapes, each a file in the folder DIR
 ";
@@ -48,7 +45,7 @@ commands:
 type Run = fn(&[OsString], &mut dyn Read, &mut dyn Write) -> Result<(), Failure>;
 
 /// The commands: name, number of words after it, what is done.
-const COMMANDS: [(&str, usize, Run); 15] = [
+const COMMANDS: [(&str, usize, Run); 13] = [
     ("counter", 0, |_, _, out| Ok(counter_report::write(out)?)),
     ("card_bytes", 0, |_, _, out| Ok(card_bytes::write(out)?)),
     ("chip_cases", 0, |_, _, out| chip_cases::write(out)),
@@ -63,7 +60,6 @@ const COMMANDS: [(&str, usize, Run); 15] = [
     ("reflection", 0, |_, input, out| {
         reflection_report::write(input, out)
     }),
-    ("both_forms", 0, |_, _, out| both_forms_report::write(out)),
     ("listing", 0, |_, input, out| {
         Ok(listing::write(input, out)?)
     }),
@@ -72,11 +68,6 @@ const COMMANDS: [(&str, usize, Run); 15] = [
     }),
     ("clock_bytes", 0, |_, input, out| {
         Ok(clock_bytes::write(input, out)?)
-    }),
-    ("move", 0, |_, input, out| {
-        let moved = moves::moved_input(input);
-        let moved = moved.map_err(|refusal| Failure::Refused(moves::refusal_text(refusal)))?;
-        Ok(out.write_all(&moved)?)
     }),
     ("repeat_line", 0, |_, input, out| {
         Ok(repeat_line::write(input, out)?)
@@ -106,19 +97,13 @@ fn chosen(words: &[OsString]) -> Option<Run> {
     COMMANDS.iter().find(known).map(|command| command.2)
 }
 
-/// Does the command that the words name and answers the exit status: 0 for a whole output, for a write
-/// error on it, which only ends it, and for a refusal; 1 for what is missing or false or cannot be written; 2
-/// without a known command. A refusal, what is wrong, or the usage, is written to the error output.
-fn run(
-    words: &[OsString],
-    input: &mut dyn Read,
-    out: &mut dyn Write,
-    errors: &mut dyn Write,
-) -> u8 {
-    let done = chosen(words).map(|run| run(&words[1..], input, out));
+/// Does the command that the words name and answers the exit status: 0 for a whole output, and for
+/// a write error on it, which only ends it; 1 for what is missing or false or cannot be written; 2
+/// without a known command. What is wrong, or the usage, is written to the error output.
+fn run(words: &[OsString], out: &mut dyn Write, errors: &mut dyn Write) -> u8 {
+    let done = chosen(words).map(|run| run(&words[1..], &mut io::stdin().lock(), out));
     let (status, text) = match done {
         Some(Ok(()) | Err(Failure::WriteError)) => (0, String::new()),
-        Some(Err(Failure::Refused(text))) => (0, text),
         Some(Err(Failure::Named(text))) => (1, text),
         None => (2, USAGE.to_string()),
     };
@@ -129,9 +114,8 @@ fn run(
 /// Does the command that the program's words name.
 fn main() -> ExitCode {
     let words: Vec<OsString> = env::args_os().skip(1).collect();
-    let mut input = io::stdin().lock();
     let mut out = BufWriter::new(io::stdout().lock());
-    ExitCode::from(run(&words, &mut input, &mut out, &mut io::stderr()))
+    ExitCode::from(run(&words, &mut out, &mut io::stderr()))
 }
 
 #[cfg(test)]
@@ -142,8 +126,7 @@ mod command_tests {
     fn status(words: &[&str], room: usize) -> (u8, String) {
         let words: Vec<OsString> = words.iter().map(OsString::from).collect();
         let mut errors = Vec::new();
-        let mut input = io::empty();
-        let status = run(&words, &mut input, &mut &mut vec![0; room][..], &mut errors);
+        let status = run(&words, &mut &mut vec![0; room][..], &mut errors);
         (status, String::from_utf8(errors).unwrap())
     }
 
@@ -164,20 +147,6 @@ mod command_tests {
         for words in unknown {
             assert_eq!(status(words, 9), (2, USAGE.to_string()));
         }
-    }
-
-    #[test]
-    fn a_refused_move_is_told_on_the_error_output_with_status_0() {
-        let words = ["move".into()];
-        let moved = |mut tape: &[u8]| {
-            let (mut out, mut errors) = (Vec::new(), Vec::new());
-            let status = run(&words, &mut tape, &mut out, &mut errors);
-            (status, out, String::from_utf8(errors).unwrap())
-        };
-        let refused = "refused 7 record 1\n".to_string();
-        let bad = [1, 0, 6, 9, 4, 0, 10, 0, 0];
-        assert_eq!(moved(&bad), (0, vec![], refused));
-        assert_eq!(moved(&[1]), (0, vec![2, 0, 0, 0, 0], String::new()));
     }
 
     #[test]

@@ -27,21 +27,18 @@ from classroom.tests.cases import NO_LATCHES, RULER, SHOWN, TENS, read_terminal
 
 PROJECT = Path(__file__).resolve().parent.parent.parent
 COMMAND = [sys.executable, PROJECT / "glintstool"]
-BUILT = ("card_bytes", "clock_bytes", "line_bytes", "listing", "move_tape")
+BUILT = ("card_bytes", "clock_bytes", "line_bytes", "listing")
 REFUSALS = (PROJECT / "docs/REFUSALS.md").read_text("utf-8")
 LESSONS = sorted((PROJECT / "lessons").glob("*.txt"))
-VERBS = ("look", "list", "picture", "page", "step", "assemble", "disassemble", "move")  # those that read a file
+VERBS = ("look", "list", "picture", "page", "step", "assemble", "disassemble")  # those that read a file
 ALL_VERBS = (*VERBS, "cards")
 SHOWING = {"look": [], "list": [], "picture": ["-o", "out"], "page": ["-o", "out"], "step": ["--line", "0"]}
 STATUS = "exit status: 0; 1 where a file is wrong, no line was run, or the chip refuses the tape; 2 for a wrong command line"
 CODES = re.compile("\x1b\\[[0-9;]*m")
-SIZES = re.compile(r"[^ ]+: \d+ bytes in version 1, \d+ in version 2")  # what move tells
 
 # The case that the chip's description prints, as a source and as a tape, its listing, and its picture on 80 columns.
 SOURCE = "line\n  0 ENAM0 $02\n 30 RESM0\nline\nline\n  0 HMM0 $70\n  9 HMOVE\nline\n"
 TAPE = bytes.fromhex("01 0006 001D02 1E1200 0000 0006 002270 092A00 0000")
-TAPE_2 = bytes.fromhex("02 00000010 02 001D02 1D1200 00 02 002270 082A00 00")
-SOURCE_2 = "version 2\n" + SOURCE
 LISTING = f"line P0 P1 M0 M1 BL PF\n0 - - - - - -\n1 - - 3 - - -\n2 - - 156 - - -\n3 - - 156 - - -\n{NO_LATCHES}\n"
 ABOVE_80 = [
     " " * 10 + TENS[10:80],
@@ -74,8 +71,8 @@ COLOURED = "line\n 0 COLUBK $84\n 1 COLUPF $1E\n 2 PF0 $10\n 9 HMOVE\nline\n"
 WRONG_WRITES = {5: " 228 GRP0 7", 6: " 3 GRP0 7", 7: " 9 $2d 7"}
 REFUSED_TAPES = {
     b"\x01\x00": (0, "refused 9 line 0 record 0", "byte 1: the tape ends inside the length of line 0: expected two bytes, found one (refusal 9)"),
-    b"\x03\x00\x00": (0, "refused 8 line 0 record 0", "byte 0: the version byte is $03: expected $01 or $02 (refusal 8)"),
-    b"\x00": (0, "refused 8 line 0 record 0", "byte 0: the version byte is $00: expected $01 or $02 (refusal 8)"),
+    b"\x02\x00\x00": (0, "refused 8 line 0 record 0", "byte 0: the version byte is $02: expected $01 (refusal 8)"),
+    b"\x00": (0, "refused 8 line 0 record 0", "byte 0: the version byte is $00: expected $01 (refusal 8)"),
     b"\x01\x00\x00\x00\x04": (
         *(1, "refused 4 line 1 record 0"),
         "byte 3: the length of line 1 is 4: expected a multiple of 3, at most 684 (refusal 4)",
@@ -87,40 +84,10 @@ REFUSED_TAPES = {
     b"\x01\x00\x00\x00\x06\x00\x1b\x01\xe4\x1b\x01": (1, "refused 5 line 1 record 1", ""),
     b"\x01\x00\x00\x00\x06\x05\x1b\x01\x05\x1b\x01": (1, "refused 6 line 1 record 1", ""),
     b"\x01\x00\x00\x00\x03\x05\x2d\x01": (1, "refused 7 line 1 record 0", ""),
-    b"\x02": (0, "refused 9 line 0 record 0", "byte 1: the tape ends inside its length: expected 4 bytes, found 0 (refusal 9)"),
-    b"\x02\x00\x00\x00": (
-        *(0, "refused 9 line 0 record 0"),
-        "byte 1: the tape ends inside its length: expected 4 bytes, found 3 (refusal 9)",
-    ),
-    b"\x02\x00\x00\x00\x05\x00": (
-        *(0, "refused 9 line 0 record 0"),
-        "byte 1: the tape's length is 5: expected 1, the number of bytes that follow it (refusal 9)",
-    ),
-    b"\x02\x00\x00\x00\x02\x00\xe5": (
-        *(1, "refused 4 line 1 record 0"),
-        "byte 6: the number of writes of line 1 is 229: expected at most 228 (refusal 4)",
-    ),
-    b"\x02\x00\x00\x00\x05\x00\x02\x00\x1b\x01": (
-        *(1, "refused 9 line 1 record 0"),
-        "byte 6: the tape ends inside line 1: expected 6 bytes of writes, found 3 (refusal 9)",
-    ),
-    b"\x02\x00\x00\x00\x08\x00\x02\x64\x1b\x01\x7f\x1b\x01": (1, "refused 5 line 1 record 1", ""),
-    b"\x02\x00\x00\x00\x08\x00\x02\xff\x1b\x01\xff\x2d\x01": (1, "refused 5 line 1 record 0", ""),
-    b"\x02\x00\x00\x00\x08\x00\x02\x64\x1b\x01\x7e\x2d\x01": (1, "refused 7 line 1 record 1", ""),
-}
-# The write at fault of those whose lines can be read, as move names it: line and write.
-WRITES_AT_FAULT = {
-    b"\x01\x00\x00\x00\x06\x00\x1b\x01\xe4\x1b\x01": "line 1: 228 GRP0 $01",
-    b"\x01\x00\x00\x00\x06\x05\x1b\x01\x05\x1b\x01": "line 1: 5 GRP0 $01",
-    b"\x01\x00\x00\x00\x03\x05\x2d\x01": "line 1: 5 $2D $01",
-    b"\x02\x00\x00\x00\x08\x00\x02\x64\x1b\x01\x7f\x1b\x01": "line 1: 228 GRP0 $01",
-    b"\x02\x00\x00\x00\x08\x00\x02\xff\x1b\x01\xff\x2d\x01": "line 1: 255 GRP0 $01",
-    b"\x02\x00\x00\x00\x08\x00\x02\x64\x1b\x01\x7e\x2d\x01": "line 1: 227 $2D $01",
 }
 
 LINES_MISTAKE = "expected a line, such as 3, or lines, such as 3-8"
 FOLD_MISTAKE = "expected a number of columns, 1 to 160"
-VERSION_MISTAKE = "expected a version, 1 to 2"
 
 
 def each(texts, words, message):
@@ -159,10 +126,6 @@ MISTAKES = [
     *each(["", "0", "33", "-1", "a", "1.5"], "picture a -o b --scale=TEXT", "found 'TEXT': expected a scale, 1 to 32"),
     *each(["PF", "", "M2"], "step a --line 0 --object TEXT", "argument --object: found 'TEXT': expected P0, P1, M0, M1, BL"),
     *each(["", "-1", "65536", "a", "1-2"], "step a --line=TEXT", "argument --line: found 'TEXT': expected a line, 0 to 65535"),
-    *each(["", "0", "3", "-1", "a", "2.0"], "assemble a --version=TEXT", f"argument --version: found 'TEXT': {VERSION_MISTAKE}"),
-    *each(["", "0", "3", "-1", "a", "2.0"], "move a --to=TEXT", f"argument --to: found 'TEXT': {VERSION_MISTAKE}"),
-    *each(["--version", "--lines"], "move a TEXT 1", "found 'TEXT': expected one of the verb's options"),
-    *each(["mov"], "TEXT a -o b", "did you mean './glintstool move a -o b'?"),
     *each(["red"], "look --colour TEXT a", "argument --colour/--color: .*'TEXT'.*auto.*always.*never"),
 ]
 
@@ -266,9 +229,8 @@ class Help(Case):
             "picture": "-o --scale --lines --pal --quiet",
             "page": "-o --lines --pal --quiet",
             "step": "--line --clocks --object --quiet",
-            "assemble": "-o --version --quiet",
+            "assemble": "-o --quiet",
             "disassemble": "-o",
-            "move": "-o --to --quiet",
             "cards": "",
         }
         for verb, names in options.items():
@@ -281,7 +243,7 @@ class Help(Case):
             (self.folder / name).symlink_to(PROJECT / name)
         path = f"{Path(sys.executable).parent}:{os.environ['PATH']}"
         examples = [row.strip() for rows in EXAMPLES.values() for row in rows.splitlines() if row.strip()]
-        self.assertEqual(len(examples), 25)
+        self.assertEqual(len(examples), 21)
         written = {}
         for row in examples:
             self.file("mine.txt", LONG)
@@ -290,14 +252,12 @@ class Help(Case):
             self.assertTrue(example.startswith("./glintstool "), row)
             options = {"shell": True, "cwd": self.folder, "env": environment(PATH=path), "capture_output": True, "timeout": 60}
             done = subprocess.run(example, **options)
-            told = [row for row in done.stderr.decode().splitlines() if "hint: " not in row and SIZES.fullmatch(row) is None]
-            self.assertEqual((done.returncode, told), (0, []), example)
+            told = done.stderr.decode().splitlines()
+            self.assertEqual((done.returncode, [row for row in told if "hint: " not in row]), (0, []), example)
             output = re.search("-o ([^ ]+)", example)
             written[example] = (self.folder / output[1]).read_bytes() if output else done.stdout
             self.assertTrue(written[example], example)
         self.assertEqual(assemble(written["./glintstool disassemble mine.tape -o mine.txt"].decode()), TAPE)
-        self.assertEqual(written["./glintstool assemble --version 2 mine.txt -o box.tape"], assemble(LONG, 2))
-        self.assertEqual(written["./glintstool move --to 2 mine.tape -o box.tape"], TAPE_2)
 
 
 class Cards(Case):
@@ -422,8 +382,7 @@ class Inputs(Case):
         tape, source = self.file("a.txt", TAPE), self.file("a.tape", SOURCE)
         for verb, more in SHOWING.items():
             found = []
-            piped = [("-", data) for data in (TAPE, SOURCE.encode(), TAPE_2, SOURCE_2.encode())]
-            for name, data in [(tape, b""), (source, b""), *piped]:
+            for name, data in ((tape, b""), (source, b""), ("-", TAPE), ("-", SOURCE.encode())):
                 status, output, errors = self.run_command(verb, name, *more, "--quiet", data=data)
                 self.assertEqual((status, errors), (0, ""), (verb, name))
                 if verb in ("picture", "page"):
@@ -454,7 +413,7 @@ class Inputs(Case):
 class Outputs(Case):
     def test_the_output_is_the_input(self):
         advice = "cannot be written: it is the input: name another file with -o"
-        for verb, data in (("assemble", SOURCE.encode()), ("disassemble", TAPE), ("picture", TAPE), ("page", TAPE), ("move", TAPE)):
+        for verb, data in (("assemble", SOURCE.encode()), ("disassemble", TAPE), ("picture", TAPE), ("page", TAPE)):
             name = self.file("a", data)
             self.assert_fails(f"a: {advice}", verb, name, "-o", "a", *(["--quiet"] if verb == "picture" else []))
             self.assert_fails(f"./a: {advice}", verb, name, "-o", "./a", *(["--quiet"] if verb == "picture" else []))
@@ -469,15 +428,14 @@ class Outputs(Case):
 
     def test_in_no_folder(self):
         name = self.file("a.txt", COLOURED)
-        for verb in ("picture", "page", "assemble", "move"):
+        for verb in ("picture", "page", "assemble"):
             message = "none/out: cannot be written: No such file or directory: name another file with -o"
             self.assert_fails(message, verb, name, "-o", "none/out")
         (self.folder / "out").mkdir()
         self.assert_fails("out: cannot be written: Is a directory: name another file with -o", "page", name, "-o", "out")
 
     def test_a_full_disk(self):
-        step = ["step", "-", "--line", "0"]
-        for words in (["look", "-"], ["list", "-"], ["page", "-", "-o", "-"], step, ["disassemble"], ["move"]):
+        for words in (["look", "-"], ["list", "-"], ["page", "-", "-o", "-"], ["step", "-", "--line", "0"], ["disassemble"]):
             with open("/dev/full", "wb") as full:
                 options = {"input": TAPE, "stdout": full, "stderr": subprocess.PIPE, "cwd": self.folder}
                 done = subprocess.run([*COMMAND, *words], **options)
@@ -508,7 +466,7 @@ class Outputs(Case):
                 self.assertEqual((run.stderr.read(), run.wait()), (b"", 0), verb)
 
     def test_bytes_are_not_written_to_a_terminal(self):
-        for words, what in ((["assemble"], "tape"), (["move"], "tape"), (["picture", "-", "-o", "-"], "picture")):
+        for words, what in ((["assemble"], "tape"), (["picture", "-", "-o", "-"], "picture")):
             message = f"standard output is a terminal: name a file for the {what} with -o\n"
             self.assertEqual(self.on_terminal(*words, data=COLOURED.encode()), (1, message))
 
@@ -521,8 +479,8 @@ class Outputs(Case):
     def test_a_command_that_fails_leaves_the_output_as_it_was(self):
         wrong = {"bad": "line\n 5 HMM9 3\n", "empty": "", "no lines": "; nothing\n", "tape too long": bytes([1] + [0] * 65536)}
         for contents in wrong.values():
-            for verb in ("picture", "assemble", "disassemble", "move"):
-                if verb in ("assemble", "move") and contents == wrong["no lines"]:
+            for verb in ("picture", "assemble", "disassemble"):
+                if (verb, contents) == ("assemble", wrong["no lines"]):
                     continue  # it is a tape, of no lines
                 self.file("out", "before")
                 status, printed, errors = called(verb, self.folder / self.file("a", contents), "-o", self.folder / "out")
@@ -703,114 +661,11 @@ class Refused(Case):
         self.assertEqual(output.decode().splitlines()[-2:], ["refused 7 line 0 record 0", meaning("7", REFUSALS)])
 
     def test_disassemble_names_the_place(self):
-        message = "standard input: byte 0: the version byte is $03: expected $01 or $02 (refusal 8)"
-        self.assert_fails(message, "disassemble", data=b"\3\0\0")
+        message = "standard input: byte 0: the version byte is $02: expected $01 (refusal 8)"
+        self.assert_fails(message, "disassemble", data=b"\2\0\0")
         status, output, errors = self.run_command("disassemble", "-", data=TAPE[:-1])
         self.assertEqual((status, output), (1, b""))
         self.assertRegex(errors, r"\Astandard input: byte \d+: .*\(refusal 9\)\n\Z")
-
-
-class Moving(Case):
-    sizes = "{}: 21 bytes in version 1, 21 in version 2\n"
-    same_version = (
-        "{}: found a tape of version {}: expected another version (refusal 8): use the tape as it is, "
-        "or leave '--to {}' out to move it to version {}"
-    )
-
-    def test_both_ways(self):
-        for data, moved in ((TAPE, TAPE_2), (TAPE_2, TAPE), (SOURCE.encode(), TAPE_2), (SOURCE_2.encode(), TAPE)):
-            told = self.sizes.format("standard input")
-            for words in (["move"], ["move", "-"], ["move", "-o", "-"], ["move", "--to", str(moved[0])]):
-                self.assertEqual(self.run_command(*words, data=data), (0, moved, told), words)
-            self.assertEqual(self.run_command("move", self.file("a", data), "-o", "b"), (0, b"", self.sizes.format("a")))
-            self.assertEqual((self.folder / "b").read_bytes(), moved)
-            self.assertEqual(self.run_command("move", "a", "--quiet"), (0, moved, ""))
-
-    def test_every_lesson_moves_and_comes_back(self):
-        count = 0
-        for tape in [lesson.with_suffix(".tape") for lesson in LESSONS if lesson.name != "09-refusal.txt"]:
-            there, back = self.folder / "there", self.folder / "back"
-            for given, output in ((tape, there), (there, back)):
-                status, printed, told = called("move", given, "-o", output)
-                self.assertEqual((status, printed), (0, ""))
-                self.assertRegex(told, SIZES)
-            self.assertEqual(back.read_bytes(), tape.read_bytes(), tape.name)
-            self.assertEqual({there.read_bytes()[0], tape.read_bytes()[0]}, {1, 2})
-            self.assertEqual(programs.replay(there.read_bytes()), programs.replay(tape.read_bytes()), tape.name)
-            count += 1
-        self.assertGreater(count, 12)
-
-    def test_what_the_verbs_show_of_both(self):
-        for verb, more in SHOWING.items():
-            shown = []
-            for tape in (TAPE, TAPE_2):
-                status, output, _ = self.run_command(verb, self.file("a", tape), *more)
-                self.assertEqual(status, 0)
-                shown.append((self.folder / "out").read_bytes() if "-o" in more else output)
-            self.assertEqual(*shown, verb)
-        rows = self.rows("step", "--line", "2", "--clocks", "9", "-", data=TAPE_2)
-        self.assertEqual(rows[2].split()[-1], "HMOVE")  # the wait is 8
-
-    def test_the_version_that_it_is_to_have(self):
-        for data, version in ((TAPE, 1), (TAPE_2, 2), (SOURCE.encode(), 1), (SOURCE_2.encode(), 2), (b"\1\0", 1), (b"\2", 2)):
-            self.file("out", "before")
-            name = self.file("a", data)
-            message = self.same_version.format("a", version, version, 3 - version)
-            self.assert_fails(message, "move", name, "--to", str(version), "-o", "out")
-            self.assertEqual((self.folder / "out").read_text(), "before")
-
-    def test_refused(self):
-        for tape, (_, last, place) in REFUSED_TAPES.items():
-            self.file("out", "before")
-            _, number, _, _, _, record = last.split()
-            rows = [f"refused {number} record {record}", meaning(number, REFUSALS), f"a: {place or WRITES_AT_FAULT[tape]}"]
-            self.assert_fails("\n".join(rows), "move", self.file("a", tape), "-o", "out")
-            self.assertEqual((self.folder / "out").read_text(), "before")
-            self.assert_fails("\n".join(rows), "move", "a", "--to", "2" if tape[0] != 2 else "1")
-
-    def test_where_in_a_source(self):
-        for number, write in WRONG_WRITES.items():
-            name = self.file("a.txt", f"line\n 3 grp0 1\n{write}\n")
-            rows = [f"refused {number} record 1", meaning(str(number), REFUSALS), f"a.txt:3:{write.upper().replace(' 7', ' $07')}"]
-            self.assert_fails("\n".join(rows), "move", name, "--quiet")
-
-    def test_too_long(self):
-        for head in (b"\1", b"\2\0\0\xff\xfc"):
-            tape = head + bytes(65537 - len(head))
-            message = f"refused 13 record 0\n{meaning('13', REFUSALS)}"
-            for words in ([], ["--to", "1"], ["--to", "2"]):
-                self.assert_fails(message, "move", *words, data=tape)
-
-    def test_a_moved_tape_that_is_too_long(self):
-        tape = b"\2\0\0\xff\xfb" + bytes(65531)
-        status, output, told = self.run_command("move", data=tape)
-        self.assertEqual((status, output), (0, b"\1" + bytes(131062)))
-        sizes, longer = told.splitlines()
-        self.assertEqual(sizes, "standard input: 131063 bytes in version 1, 65536 in version 2")
-        self.assertRegex(longer, r"\Astandard input: hint: the moved tape has more than 65,536 bytes: ")
-        self.assertEqual(self.run_command("move", "--quiet", data=tape), (0, output, ""))
-
-    def test_no_lines(self):
-        none = bytes.fromhex("02 00000000")
-        self.assertEqual(self.run_command("move", "--quiet", data=b"\1"), (0, none, ""))
-        self.assertEqual(self.run_command("move", "--quiet", data=none), (0, b"\1", ""))
-        status, output, told = self.run_command("move", data=b"; nothing\n")
-        self.assertEqual((status, output), (0, none))
-        self.assertIn("standard input: hint: found no 'line': expected one for each scanline\n", told)
-
-    def test_assembled_in_each_version(self):
-        for data in (SOURCE, SOURCE_2):
-            for version, tape in (("1", TAPE), ("2", TAPE_2)):
-                self.assertEqual(self.run_command("assemble", "--version", version, data=data.encode()), (0, tape, ""))
-        self.assertEqual(self.run_command("assemble", data=SOURCE_2.encode()), (0, TAPE_2, ""))
-        self.assertEqual(self.text("disassemble", data=TAPE_2), "version 2\n" + self.text("disassemble", data=TAPE))
-
-    def test_a_source_that_no_tape_of_version_2_holds(self):
-        name = self.file("a.txt", "line\n 9 GRP0 1\n 9 GRP0 2\n")
-        self.assertEqual(self.run_command("assemble", name)[0], 0)
-        status, output, told = self.run_command("assemble", name, "--version", "2", "-o", "out")
-        self.assertEqual((status, output, (self.folder / "out").exists()), (1, b"", False))
-        self.assertRegex(told, r"\Aa\.txt:3: found clock 9 after clock 9: expected a higher one: [^\n]*\n\Z")
 
 
 class Hints(Case):

@@ -24,8 +24,7 @@ LESSONS = sorted((PROJECT / "lessons").glob("*.txt"))
 COLOURED = [lesson for lesson in LESSONS if "13" <= lesson.name < "16"]  # those that name colours on every line
 SIZES, STRETCHED = LESSONS[5], LESSONS[15]  # those that show the sizes of a player
 REFLECTED = LESSONS[16]
-TIGHTER = LESSONS[17]  # that with a tape of version 2
-TRIED = [SIZES, *COLOURED, STRETCHED, REFLECTED, TIGHTER]  # those whose changes to try can be read here
+TRIED = [SIZES, *COLOURED, STRETCHED, REFLECTED]  # those whose changes to try can be read here
 WITH_HINTS = ["09-refusal.txt", "11-blank-columns.txt"]  # those that show a late HMOVE on purpose
 COURSE = (PROJECT / "lessons/README.md").read_text("utf-8")
 
@@ -36,8 +35,6 @@ SPAN = r"\d+(?: to \d+)?"
 # The columns that a remark says are lit, or blank, or have a colour such as $46; not those that it measures from.
 CLAIM = re.compile(rf"(?<!of )columns? ({SPAN}(?:(?:, and|,| and) {SPAN})*)(?: (?:is|are) (blank|\$[0-9A-F]{{2}}))?")
 NOT_RUN = re.compile(r"not reached|refused \d+ line")
-REFUSED = re.compile(r"refused \d+ line \d+ record \d+")
-BOTH = r"([0-9A-F]+) or ([0-9A-F]+)"  # bytes of a line or a write in version 1, and in version 2
 # A change to try: a write to add (value and clock), to give another value or another clock, or to take away.
 CHANGE = re.compile(
     rf"(?:write (?P<register>\w+)(?: (?P<value>\$\w+))?(?: at clock (?P<clock>\d+))? (?:in|of)|take (?P<gone>\w+) of) "
@@ -308,10 +305,6 @@ class Tries(unittest.TestCase):
             for words, said in tries(text):
                 with self.subTest(lesson=lesson.name, change=words):
                     new, lines = changed(text, words)
-                    refused = REFUSED.search(said)
-                    if refused:
-                        self.assertEqual(programs.replay(assemble(new)).last, refused[0])
-                        continue
                     after = lines_run(new)
                     found = [(number, *claim) for named, some in results(said, lines) for number in named for claim in some]
                     self.assertEqual([claim for claim in found if not holds(after[claim[0]], *claim[1:])], [])
@@ -335,11 +328,11 @@ class Commands(unittest.TestCase):
 
     def test_commands_of_the_course(self):
         commands = re.findall(r"^    (.*)$", section("Look at a lesson"), re.M) + re.findall(r"`(\./glintstool [^`]*)`", COURSE)
-        self.assertEqual(len(commands), 6)
+        self.assertEqual(len(commands), 5)
         for command in commands:
             words = [self.folder / word if word.startswith("mine.") else word for word in shlex.split(command)]
             done = subprocess.run(words, cwd=PROJECT, capture_output=True, text=True, check=True)
-            self.assertEqual(len(done.stderr.splitlines()), words[1] == "move", command)
+            self.assertEqual(done.stderr, "", command)
         stored = (PROJECT / "lessons/15-landscape.png").read_bytes()
         drawn = (self.folder / "mine.png").read_bytes()
         self.assertTrue(pixels_of(drawn) == pixels_of(stored))  # assertEqual would take minutes to show a difference
@@ -371,15 +364,6 @@ class Commands(unittest.TestCase):
         for runs in re.findall('data-runs="([0-9A-F]*)"', page):
             shown.append(b"".join(int(length, 16) * bytes.fromhex(byte) for byte, length in re.findall("..(..)(..)", runs)))
         self.assertEqual(shown, [line.colours for line in lines])
-
-    def test_the_tape_moved_to_version_1(self):
-        text = TIGHTER.read_text("utf-8")
-        (command,) = re.findall(r"^; (\./glintstool move .* -o mine\.tape)$", text, re.M)
-        output = self.folder / "mine.tape"
-        done = subprocess.run([*shlex.split(command)[:-1], output], cwd=PROJECT, capture_output=True, text=True, check=True)
-        sizes = f"{len(assemble(text, 1))} bytes in version 1, {len(assemble(text, 2))} in version 2"
-        self.assertEqual((done.stdout, done.stderr), ("", f"lessons/{TIGHTER.name}: {sizes}\n"))
-        self.assertEqual(output.read_bytes(), assemble(text, 1))
 
     def test_steps_of_a_stretched_player(self):
         text = STRETCHED.read_text("utf-8")
@@ -466,83 +450,6 @@ class Course(unittest.TestCase):
         (words,) = re.findall(r"^17\. Sixteen: ([^.]*)\.", COURSE, re.M)
         self.assertEqual([int(byte, 16) for byte in re.findall(r"\$([0-9A-F]{2})", words)], own)
         self.assertEqual(len(own), 16)
-
-
-    def test_answer_18(self):
-        (digits, size) = re.search(r"^18\. `([0-9A-F ]*)`\. None: both versions have (\d+) bytes", COURSE, re.M).groups()
-        text = LESSONS[2].read_text("utf-8")
-        self.assertEqual(bytes.fromhex(digits), assemble(text, 2))
-        self.assertEqual([len(assemble(text, version)) for version in (1, 2)], 2 * [int(size)])
-
-
-class TighterTape(unittest.TestCase):
-    def test_the_tape_is_of_version_2(self):
-        self.assertEqual(TIGHTER.with_suffix(".tape").read_bytes(), assemble(TIGHTER.read_text("utf-8"), 2))
-
-    def test_the_bytes_beside_lines_and_writes(self):
-        text = TIGHTER.read_text("utf-8")
-        bodies = zip(*re.findall(rf"^(?:line| +\d).*; (?:.*; )?{BOTH}", text, re.M))
-        first, second = (bytes.fromhex("".join(parts)) for parts in bodies)
-        self.assertEqual(b"\x01" + first, assemble(text, 1))
-        self.assertEqual(b"\x02" + len(second).to_bytes(4, "big") + second, assemble(text, 2))
-
-    def test_waits_by_hand(self):
-        text = TIGHTER.read_text("utf-8")
-        found = re.findall(rf"{BOTH}: (\d+) - (\d+) - 1 = (\d+)(?:, in hexadecimal ([0-9A-F]+))?", text)
-        self.assertGreater(len(found), 5)
-        for first, second, clock, before, wait, digits in found:
-            self.assertEqual(int(clock) - int(before) - 1, int(wait))
-            self.assertEqual((int(first[:2], 16), int(second[:2], 16), first[2:]), (int(clock), int(wait), second[2:]))
-            self.assertEqual(digits or f"{int(wait):X}", f"{int(wait):X}")
-
-    def test_the_bytes_of_the_changes_to_try(self):
-        text = TIGHTER.read_text("utf-8")
-        for words, said in tries(text):
-            new, _ = changed(text, words)
-            register, *both = re.search(rf"(\w+) is {BOTH}", said).groups()
-            for version, digits in zip((1, 2), both):
-                body, old = bytes.fromhex(digits), assemble(text, version)
-                self.assertEqual(body[1], REGISTERS[register].address)
-                self.assertIn(body, assemble(new, version), words)
-                self.assertTrue(version == 1 or body not in old, words)
-
-    def test_where_it_is_shorter(self):
-        for lines in range(1, 9):
-            first, second = (len(assemble("line\n 9 HMOVE\n" * lines, version)) for version in (1, 2))
-            self.assertEqual(second < first, lines > 4)
-
-
-class Box(unittest.TestCase):
-    def test_the_stored_table(self):
-        done = subprocess.run(["lessons/box"], cwd=PROJECT, capture_output=True, text=True, check=True)
-        self.assertEqual((done.stdout, done.stderr), ((PROJECT / "lessons/box.table").read_text("ascii"), ""))
-
-    def test_a_row_for_each_lesson_and_the_sums(self):
-        heads, *rows, last = (PROJECT / "lessons/box.table").read_text("ascii").splitlines()
-        self.assertEqual(re.split("  +", heads), ["lesson", "version 1", "version 2"])
-        cells = [re.split("  +", row) for row in rows]
-        self.assertEqual([row[0] for row in cells], [lesson.stem for lesson in LESSONS])
-        sums = [0, 0]
-        for lesson, (_, *sizes) in zip(LESSONS, cells):
-            text = lesson.read_text("utf-8")
-            if lesson.name == "09-refusal.txt":
-                self.assertEqual(sizes, [str(len(assemble(text))), "-", "refused 6 record 2"])
-                continue
-            found = [len(assemble(text, version)) for version in (1, 2)]
-            self.assertEqual(sizes, [str(size) for size in found], lesson.name)
-            self.assertEqual(found[1] - found[0], 4 - len(parsed(text)))
-            sums = [total + size for total, size in zip(sums, found)]
-        self.assertEqual(re.split("  +", last), ["all that can be moved", *map(str, sums)])
-
-    def test_wrong_folders(self):
-        with tempfile.TemporaryDirectory() as folder:
-            for words, status, message in (
-                ([folder], 1, f"{folder}: found no tape: expected a folder with tapes, such as lessons"),
-                ([f"{folder}/none"], 1, f"{folder}/none: found no tape: expected a folder with tapes, such as lessons"),
-                (["a", "b"], 2, "expected one folder: lessons/box [FOLDER]"),
-            ):
-                done = subprocess.run(["lessons/box", *words], cwd=PROJECT, capture_output=True, text=True)
-                self.assertEqual((done.returncode, done.stdout, done.stderr), (status, "", f"{message}\n"))
 
 
 class PrintedCards(unittest.TestCase):

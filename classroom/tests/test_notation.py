@@ -9,9 +9,9 @@ from itertools import accumulate
 from pathlib import Path
 from unittest import mock
 
-from classroom.notation import SourceError, SourceErrors, Written, assemble, disassemble, parsed, read, source_text
+from classroom.notation import SourceError, SourceErrors, Written, assemble, disassemble, parsed, source_text
 from classroom.registers import LEFT_OUT, MOTION, MOVABLE, REGISTERS
-from classroom.tape_forms import FORMS, TapeError, fits, pack, readable, unpack
+from classroom.tape_forms import TapeError, readable, unpack
 
 DOCUMENT = Path(__file__).resolve().parent.parent / "NOTATION.md"
 TABLE = DOCUMENT.parent.parent / "lessons/README.md"  # where the registers' table stands
@@ -30,8 +30,6 @@ OTHER_REGISTERS = """VSYNC VBLANK WSYNC RSYNC AUDC0 AUDC1 AUDF0 AUDF1 AUDV0 AUDV
 # The case that the chip's description prints, as a source and as a tape.
 SOURCE = "line\n  0 ENAM0 $02\n 30 RESM0\nline\nline\n  0 HMM0 $70\n  9 HMOVE\nline\n"
 TAPE = bytes.fromhex("01 0006 001D02 1E1200 0000 0006 002270 092A00 0000")
-TAPE_2 = bytes.fromhex("02 00000010 02 001D02 1D1200 00 02 002270 082A00 00")
-BORDERS = {TAPE: [1, 9, 11, 19, 21], TAPE_2: [5, 12, 13, 20, 21]}  # where lines begin, and the end
 
 
 def tape_of(lines):
@@ -41,12 +39,6 @@ def tape_of(lines):
         records = b"".join(bytes(write) for write in writes)
         tape += bytes([len(records) // 256, len(records) % 256]) + records
     return tape
-
-
-def tape_of_waits(lines):
-    """The version 2 tape of lines given as lists of wait, address and value."""
-    body = b"".join(bytes([len(writes)]) + b"".join(bytes(write) for write in writes) for writes in lines)
-    return b"\x02\0\0" + bytes([len(body) // 256, len(body) % 256]) + body
 
 
 class Registers(unittest.TestCase):
@@ -148,70 +140,9 @@ class Text(unittest.TestCase):
         eight = [[(0, 0x2A, 0)]] * 8
         self.assertEqual(assemble(repeat), tape_of([[(0, 0x1D, 2), (1, 0x22, 0x10), (100, 0x12, 0)], *eight]))
 
-    def test_example_of_the_versions(self):
-        versions = DOCUMENT.read_text("utf-8").partition("\n## The two versions\n")[2].partition("\n## ")[0]
-        (second,) = re.findall("(?:^    .*\n)+", versions, re.M)
-        self.assertEqual(assemble(second), tape_of_waits([[(0, 0x1D, 2), (29, 0x12, 0)]]))
-
     def test_parsed(self):
         lines = [[Written(2, 0, 0x1D, 2), Written(3, 30, 0x12, 0)], [], [Written(6, 0, 0x22, 0x70), Written(7, 9, 0x2A, 0)], []]
         self.assertEqual(parsed(SOURCE), lines)
-
-
-class Versions(unittest.TestCase):
-    def test_named_or_asked_for(self):
-        for text in (SOURCE, "version 1\n" + SOURCE):
-            self.assertEqual(assemble(text), TAPE)
-        for text in ("version 2\n" + SOURCE, "; a comment\n\n VERSION $2 ; here\n" + SOURCE):
-            self.assertEqual(assemble(text), TAPE_2)
-        for text in (SOURCE, "version 1\n" + SOURCE, "version 2\n" + SOURCE):
-            for version, tape in ((1, TAPE), (2, TAPE_2)):
-                self.assertEqual(assemble(text, version), tape)
-
-    def test_disassembled_case(self):
-        self.assertEqual(disassemble(TAPE_2), "version 2\n" + disassemble(TAPE))
-        self.assertEqual(unpack(TAPE_2), unpack(TAPE))
-
-    def test_no_lines(self):
-        tape = bytes.fromhex("02 00000000")
-        self.assertEqual(assemble("version 2"), tape)
-        self.assertEqual(disassemble(tape), "version 2\n; a tape of no lines\n")
-        self.assertEqual(assemble(disassemble(tape)), tape)
-
-    def test_waits(self):
-        lines = [[(0, 9, 1), (1, 9, 2), (227, 9, 3)], [], [(227, 9, 4)], [(clock, 9, clock) for clock in range(228)]]
-        waits = [[(0, 9, 1), (0, 9, 2), (225, 9, 3)], [], [(227, 9, 4)], [(0, 9, clock) for clock in range(228)]]
-        self.assertEqual(pack(2, lines), tape_of_waits(waits))
-        self.assertEqual(unpack(tape_of_waits(waits)), lines)
-        self.assertEqual(unpack(pack(1, lines)), lines)
-
-    def test_summed_clocks_over_227_come_back(self):
-        for waits in ([228], [255], [100, 127], [255, 255], [0] * 227 + [1], [255] * 228):
-            tape = tape_of_waits([[(wait, 0x1B, 1) for wait in waits], []])
-            clock = sum(waits) + len(waits) - 1
-            self.assertEqual(unpack(tape)[0][-1][0], clock)
-            self.assertIn(f" {clock} GRP0 $01\n", disassemble(tape))
-            self.assertEqual(assemble(disassemble(tape)), tape)
-
-    def test_a_number_that_no_clock_is(self):
-        clocks = [256 * at - 1 for at in range(1, 129)]  # up to 32,767
-        text = "version 2\nline\n" + "".join(f"{clock} GRP0 1\n" for clock in clocks)
-        self.assertEqual(len(assemble(text + "%1000000000000000 GRP0 1")), 5 + 1 + 129 * 3)
-        for number in ("%10000000000000000", "99999", "$10000", "9" * 99):
-            self.assertEqual([line for line, _ in errors_of(f"{text}{number} GRP0 1")], [131], number)
-
-    def test_what_fits(self):
-        for before, clocks in ((-1, range(256)), (9, range(10, 266)), (200, range(201, 457))):
-            found = [[clock for clock in range(600) if fits(FORMS[version], before, clock)] for version in (1, 2)]
-            self.assertEqual(found, [list(range(256)), list(clocks)])
-
-    def test_most_bytes(self):
-        lines = "repeat 13106\nrepeat 5\nline\nend\nend\n"  # 65,530 lines
-        self.assertEqual(len(assemble("version 2\nline\n" + lines)), 65536)
-        self.assertEqual(errors_of("version 2\nline\n" + lines + "line\n"), [(8, TOO_LONG)])
-        self.assertEqual(errors_of("line\n" + lines), [(4, TOO_LONG)])
-        self.assertEqual(len(assemble("version 2\nrepeat 16382\nline\n0 GRP0 1\nend\nrepeat 3\nline\nend\n")), 65536)
-        self.assertEqual(errors_of("version 2\nrepeat 16383\nline\n0 GRP0 1\nend"), [(4, TOO_LONG)])
 
 
 class Repeats(unittest.TestCase):
@@ -248,14 +179,14 @@ class Repeats(unittest.TestCase):
         chance = random.Random(7800)
         passed = 0
         with mock.patch("classroom.notation.MOST_BYTES", 200):
-            for version, head, ahead in 1000 * [(1, 1, 2), (2, 5, 1)]:
+            for _ in range(2000):
                 rows, expanded = random_repeats(chance, 1, 3)
                 text = "\n".join(rows)
-                sizes = accumulate(ahead if rows[row - 1] == "line" else 3 for row in expanded)
-                past = next((row for row, size in zip(expanded, sizes) if head + size > 200), None)
-                self.assertEqual([row for row, _ in errors_of(text, version)], [past] if past else [], text)
+                sizes = accumulate(2 if rows[row - 1] == "line" else 3 for row in expanded)
+                past = next((row for row, size in zip(expanded, sizes) if 1 + size > 200), None)
+                self.assertEqual([row for row, _ in errors_of(text)], [past] if past else [], text)
                 if past is None:
-                    writes = [write.row for line in read(text, version).lines for write in line]
+                    writes = [write.row for line in parsed(text) for write in line]
                     self.assertEqual(writes, [row for row in expanded if rows[row - 1] != "line"], text)
                 passed += past is not None
         self.assertGreater(passed, 200)
@@ -273,9 +204,9 @@ class Repeats(unittest.TestCase):
 
 class RoundTrips(unittest.TestCase):
     def same(self, lines):
-        """Checks that the tape of these lines comes back from its notation, and so the one of version 2 with these waits."""
-        for tape in (tape_of(lines), tape_of_waits(lines)):
-            self.assertEqual(assemble(disassemble(tape)), tape)
+        """Checks that the tape of these lines comes back from its notation."""
+        tape = tape_of(lines)
+        self.assertEqual(assemble(disassemble(tape)), tape)
 
     def test_random_tapes(self):
         chance = random.Random(2600)
@@ -306,7 +237,7 @@ def random_repeats(chance, row, depth):
             rows += [f"repeat {times}", *inner, "end"]
             taken += again * times
         else:
-            inner = ["line", *(f"{clock} GRP0 1" for clock in range(chance.randrange(4)))]
+            inner = ["line", *["0 GRP0 1"] * chance.randrange(4)]
             taken += range(row + len(rows), row + len(rows) + len(inner))
             rows += inner
     return rows, taken
@@ -324,7 +255,7 @@ def random_writes(chance, count, addresses):
     return [(chance.randrange(256), chance.choice(addresses), chance.choice(values)) for _ in range(count)]
 
 
-CLOCK = "expected 'line', 'repeat', 'end', 'version' or a clock"
+CLOCK = "expected 'line', 'repeat', 'end' or a clock"
 CLOCKS = "(0 to 227, $00 to $E3 or %0 to %11100011)"
 NUMBERS = "(0 to 255, $00 to $FF or %0 to %11111111)"
 MORE = "expected nothing more; a comment begins with ';'"
@@ -340,7 +271,6 @@ NO_COMMAS = "words are divided by blanks, not by commas"
 NO_SIGN = "only the value of a motion register, such as HMM0, has a sign"
 MOTION_RANGE = "expected a motion value from -8 (right) to +7 (left), in decimal; a byte from $00 to $FF has no sign"
 TIMES = "expected a number of times from 1 to 32767 ($7FFF)"
-NO_ORDER = "expected a higher one: a tape of version 2 holds the clocks between two writes, and so no write out of order"
 TOO_LONG = "here the tape passes 65,536 bytes, the most that it may have: write fewer lines or fewer repeats"
 
 # Source, the line at fault, the message.
@@ -446,21 +376,6 @@ BAD_SOURCES = [
     ("line\nend", 2, "found 'end' without a 'repeat': write 'repeat N' before the lines to repeat, or leave 'end' out"),
     ("line\nrepeat 2\n0 GRP0 1\nend", 3, "found a write after 'repeat': expected 'line', which begins a scanline"),
     ("repeat 2\nline\nend\n0 GRP0 1", 4, "found a write after 'end': expected 'line', which begins a scanline"),
-    ("version\nline", 1, "found 'version' alone: expected the tape's version after it, from 1 to 2"),
-    ("version 3\nline", 1, "found '3': expected a version from 1 to 2 ($02)"),
-    ("version 0\nline", 1, "found '0': expected a version from 1 to 2 ($02)"),
-    ("version -1\nline", 1, "found '-1': a version has no sign: write a number from 1 to 2"),
-    ("version two\nline", 1, "found 'two': expected a version (1 to 2, $01 to $02 or %1 to %10)"),
-    ("version 2 2\nline", 1, "found '2' after 'version 2': " + MORE),
-    ("version 2\nversion 2\nline", 2, "found 'version' again: leave it out"),
-    ("line\nversion 2", 2, "found 'version' after a 'line' or 'repeat': write it before the first of them"),
-    ("repeat 2\nversion 2\nline\nend", 2, "found 'version' after a 'line' or 'repeat': write it before the first of them"),
-    ("version 2\nline\n9 GRP0 1\n9 GRP0 2", 4, f"found clock 9 after clock 9: {NO_ORDER}"),
-    ("version 2\nline\n9 GRP0 1\n5 GRP0 2\n10 GRP0 3", 4, f"found clock 5 after clock 9: {NO_ORDER}"),
-    ("version 2\nline\n256 GRP0 1", 3, "found '256': expected a clock from 0 to 227 ($E3)"),
-    ("version 2\nline\n9 GRP0 1\n266 GRP0 1", 4, "found '266': expected a clock from 0 to 227 ($E3)"),
-    ("version 2\nline\n%10000000000000000 GRP0 1", 3, "found '%10000000000000000': expected a clock from 0 to 227 ($E3)"),
-    ("version 2\n0 GRP0 1", 2, "found a write before the first 'line': expected 'line', which begins a scanline"),
 ]
 
 # Source, the lines at fault: each once, and no mistake makes another.
@@ -488,13 +403,12 @@ BAD_BYTES = [
 ]
 
 LENGTH = "expected a multiple of 3, at most 684"
-FOLLOW = "the number of bytes that follow it"
 
 # Tape in hexadecimal, the byte's place, the refusal's number, the message.
 BAD_TAPES = [
-    ("", 0, 8, "the tape is empty: expected the version byte $01 or $02"),
-    ("00", 0, 8, "the version byte is $00: expected $01 or $02"),
-    ("03 00000000", 0, 8, "the version byte is $03: expected $01 or $02"),
+    ("", 0, 8, "the tape is empty: expected the version byte $01"),
+    ("00", 0, 8, "the version byte is $00: expected $01"),
+    ("02 00000000", 0, 8, "the version byte is $02: expected $01"),
     ("01 00", 1, 9, "the tape ends inside the length of line 0: expected two bytes, found one"),
     ("01 0003 001B01 0000 FF", 8, 9, "the tape ends inside the length of line 2: expected two bytes, found one"),
     ("01 0004 001B0101", 1, 4, f"the length of line 0 is 4: {LENGTH}"),
@@ -503,26 +417,13 @@ BAD_TAPES = [
     ("01 0005 00", 1, 4, f"the length of line 0 is 5: {LENGTH}"),
     ("01 0003", 1, 9, "the tape ends inside line 0: expected 3 bytes of writes, found 0"),
     ("01 0003 001B01 0006 001B01 01", 6, 9, "the tape ends inside line 1: expected 6 bytes of writes, found 4"),
-    ("02", 1, 9, "the tape ends inside its length: expected 4 bytes, found 0"),
-    ("02 000000", 1, 9, "the tape ends inside its length: expected 4 bytes, found 3"),
-    ("02 00000000 00", 1, 9, f"the tape's length is 0: expected 1, {FOLLOW}"),
-    ("02 00000005 00", 1, 9, f"the tape's length is 5: expected 1, {FOLLOW}"),
-    ("02 01000001 00", 1, 9, f"the tape's length is 16777217: expected 1, {FOLLOW}"),
-    ("02 00000002 E500", 5, 4, "the number of writes of line 0 is 229: expected at most 228"),
-    ("02 00000002 00FF", 6, 4, "the number of writes of line 1 is 255: expected at most 228"),
-    ("02 00000007 01001B01 02001B", 9, 9, "the tape ends inside line 1: expected 6 bytes of writes, found 2"),
 ]
 
 
-def cut_to(tape, length):
-    """The first bytes of a tape, with the length that agrees with them where its version has one."""
-    return tape[:length] if tape[0] == 1 else tape[:1] + (length - 5).to_bytes(4, "big") + tape[5:length]
-
-
-def errors_of(text, version=None):
+def errors_of(text):
     """The line and the message of each error of a source."""
     try:
-        assemble(text, version)
+        assemble(text)
     except SourceErrors as wrong:
         return [(error.line, error.message) for error in wrong.errors]
     return []
@@ -562,33 +463,24 @@ class BadInput(unittest.TestCase):
             self.assertEqual((error.place, error.number, error.message), (place, number, message))
 
     def test_every_cut_of_a_tape(self):
-        for tape, borders in BORDERS.items():
-            for length in range(borders[0], len(tape)):
-                cut = cut_to(tape, length)
-                if length in borders:
-                    self.assertEqual(assemble(disassemble(cut)), cut)
-                    continue
-                with self.assertRaises(TapeError) as caught:
-                    disassemble(cut)
-                place = max(border for border in borders if border < length)
-                self.assertEqual((caught.exception.place, caught.exception.number), (place, 9))
-
-    def test_every_cut_of_a_tape_that_has_its_length(self):
-        for length in range(1, len(TAPE_2)):
+        borders = [1, 9, 11, 19, 21]
+        for length in range(1, len(TAPE)):
+            if length in borders:
+                self.assertEqual(assemble(disassemble(TAPE[:length])), TAPE[:length])
+                continue
             with self.assertRaises(TapeError) as caught:
-                disassemble(TAPE_2[:length])
-            self.assertEqual((caught.exception.place, caught.exception.number), (1, 9))
-            self.assertEqual(readable(TAPE_2[:length]), [])
+                disassemble(TAPE[:length])
+            place = max(border for border in borders if border < length)
+            self.assertEqual((caught.exception.place, caught.exception.number), (place, 9))
 
     def test_the_readable_lines_of_a_cut_tape(self):
-        for tape, borders in BORDERS.items():
-            for length in range(borders[0], len(tape) + 1):
-                whole = sum(1 for border in borders if border <= length) - 1
-                self.assertEqual(readable(cut_to(tape, length)), unpack(tape)[:whole])
+        borders = [1, 9, 11, 19, 21]
+        for length in range(1, len(TAPE) + 1):
+            whole = sum(1 for border in borders if border <= length) - 1
+            self.assertEqual(readable(TAPE[:length]), unpack(TAPE)[:whole])
 
     def test_the_readable_lines_of_damaged_tapes(self):
-        tapes = [("", 0), ("00", 0), ("03 00000000", 0), ("01", 0), ("01 0000 02AF", 1), ("01 0000 0000 0005 00", 2)]
-        tapes += [("02", 0), ("02 00000000", 0), ("02 00000001 0000", 0), ("02 00000003 00 00 E5", 2)]
+        tapes = [("", 0), ("00", 0), ("02 00000000", 0), ("01", 0), ("01 0000 02AF", 1), ("01 0000 0000 0005 00", 2)]
         for digits, lines in tapes:
             self.assertEqual(readable(bytes.fromhex(digits)), [[]] * lines)
 

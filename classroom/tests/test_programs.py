@@ -26,22 +26,19 @@ from classroom.tests.cases import read_terminal
 PROJECT = Path(__file__).resolve().parent.parent.parent
 SOURCE = "line\n 0 ENAM0 2\n 100 RESM0\nline\n"
 LISTING = "line P0 P1 M0 M1 BL PF\n0 - - - - - -\n1 - - 36 - - -\ncx 00 00 00 00 00 00 00 00\n"
-BUILT = ("card_bytes", "clock_bytes", "line_bytes", "listing", "move_tape")
+BUILT = ("card_bytes", "clock_bytes", "line_bytes", "listing")
 OLD = 1_000_000_000  # a time long ago
-FIRST = re.compile(r"building the programs: (\d+) crates are proved first, which may take three minutes")
+FIRST = re.compile(r"building the programs: (\d+) crates are proved first, which may take two minutes")
 LAST = re.compile(r"built in \d+ seconds")
 NO_RT = "'rt' is missing: install the Rattle kit and put its bin folder on PATH; it proves and builds the programs"
 AS_THEY_ARE = "the programs are older than their sources, and 'rt' is missing: they are used as they are"
 NO_END = "target/bin/listing: found {} at the listing's end: expected latches or a refusal"
 WAITING = "the programs are being built by another call: waiting for it"
 
-CHECK = "check line_bytes listing clock_bytes card_bytes move_tape"
+CHECK = "check line_bytes listing clock_bytes card_bytes"
 
 # The programs' crates, in the order in which they are proved.
-CRATES = (
-    *("laws", "counter", "mirror", "tia", "tape", "replay", "moving", "line_bytes", "listing_text", "listing", "clock_bytes"),
-    *("card_bytes", "move_tape"),
-)
+CRATES = ("laws", "counter", "mirror", "tia", "tape", "replay", "line_bytes", "listing_text", "listing", "clock_bytes", "card_bytes")
 COUNT = len(CRATES)
 PROVED = "".join(f"echo 'rt: {crate} proved (0 s)'\n" for crate in CRATES)
 INSTALLED = f"cp {PROJECT}/target/bin/* target/bin\necho 'rt: ok, {COUNT} crates proved'\n"
@@ -182,15 +179,6 @@ class Answers(unittest.TestCase):
         self.assertEqual(programs.clock_bytes(tape, 300), b"")
 
 
-    def test_moved_tapes_and_refusals(self):
-        tape = assemble(SOURCE)
-        moved, refused = programs.move_tape(tape)
-        self.assertEqual((moved, refused), (assemble(SOURCE, 2), ""))
-        self.assertEqual(programs.move_tape(moved), (tape, ""))
-        for wrong, number in ((b"\3", 8), (tape[:-1], 9), (b"\2\0\0\0\4\1\xe4\x1b\0", 5)):
-            self.assertEqual(programs.move_tape(wrong), (b"", f"refused {number} record 0"))
-
-
 class Stale(Project):
     def setUp(self):
         super().setUp()
@@ -268,7 +256,6 @@ class Building(Project):
             (["step", "mine.txt", "--line", "0"], [CHECK]),
             (["picture", "mine.txt", "-o", "out.png"], [CHECK]),
             (["page", "mine.txt", "-o", "out.html"], [CHECK]),
-            (["move", "mine.txt", "-o", "out.tape"], [CHECK]),
             (["assemble", "mine.txt", "-o", "mine.tape"], []),
             (["disassemble", "mine.tape"], []),
         ):
@@ -286,8 +273,7 @@ class Building(Project):
             (stamps / name).write_text("")
         self.rt(f"test -e target/stamp/clock_bytes && exit\n{INSTALLED}")
         self.assertEqual(self.run_command("list", "mine.txt")[:2], (0, LISTING))
-        left = ["card_bytes", "line_bytes", "listing", "move_tape", "tia"]
-        self.assertEqual(sorted(path.name for path in stamps.iterdir()), left)
+        self.assertEqual(sorted(path.name for path in stamps.iterdir()), ["card_bytes", "line_bytes", "listing", "tia"])
 
     def test_a_build_that_leaves_no_program(self):
         self.rt(PROVED)
@@ -362,7 +348,7 @@ class Bar(Project):
         self.assertEqual(rest, "")
         states = [state.replace("\x1b[K", "") for state in drawn.split("\r")[1:]]
         self.assertEqual(states[0], f"  [{'.' * 24}] 0 of {COUNT} crates proved, 0 s")
-        self.assertRegex(states[-1], rf"\A  \[{'#' * 24}\] {COUNT} of {COUNT} crates proved, last {CRATES[-1]}, \d s\Z")
+        self.assertRegex(states[-1], rf"\A  \[{'#' * 24}\] {COUNT} of {COUNT} crates proved, last card_bytes, \d s\Z")
         for state in states:
             self.assertRegex(state, rf"\A  \[#*\.*\] \d+ of {COUNT} crates proved(, last \w+)?, \d s\Z")
         filled = [state.count("#") for state in states]
@@ -455,16 +441,6 @@ class Failing(Project):
             self.assert_fails(f"target/bin/card_bytes: found {count} bytes: expected 319", "cards")
         self.program("card_bytes", "exit 3")
         self.assert_fails("target/bin/card_bytes failed with status 3", "cards")
-
-    def test_a_move_that_is_neither_a_tape_nor_a_refusal(self):
-        found = "target/bin/move_tape: found {} bytes and {!r}: expected a tape or a refusal"
-        refusal = "refused 9 record 0"
-        for script, count, said in (("", 0, ""), (f"printf 0; echo {refusal} >&2", 1, refusal), ("echo no >&2", 0, "no")):
-            self.program("move_tape", script)
-            self.assert_fails(found.format(count, said), "move", "mine.txt", "-o", "out")
-        self.program("move_tape", "exit 3")
-        self.assert_fails("target/bin/move_tape failed with status 3", "move", "mine.txt", "-o", "out")
-        self.assertFalse((self.folder / "out").exists())
 
     def test_a_program_that_is_none(self):
         self.program("listing", "")

@@ -67,17 +67,6 @@ class Inputs(unittest.TestCase):
             for reader in (input_of, tape_of):
                 self.assertEqual(reader(path), (path, path, TAPE, None, None))
 
-    def test_versions(self):
-        second = bytes.fromhex("02 00000004 01 001D02")
-        for reader in (input_of, tape_of):
-            self.assertEqual(reader(self.path(second)).tape, second)
-        text = b"version 2\n" + SOURCE
-        for reader in (input_of, source_of):
-            self.assertEqual(reader(self.path(text)).tape, second)
-        for version, tape in ((1, TAPE), (2, second)):
-            for data in (SOURCE, text):
-                self.assertEqual(source_of(self.path(data), version).tape, tape)
-
     def test_fields(self):
         given = input_of(self.path(SOURCE))
         self.assertEqual((given.name, given.title), (given.name, given.name))
@@ -156,8 +145,7 @@ class Inputs(unittest.TestCase):
         self.assertEqual(rows[-1], f"{path}: 30 more rows are wrong")
 
     def test_neither_a_source_nor_a_tape(self):
-        tape = "a tape begins with the byte 01 or 02"
-        message = f"found neither a source nor a tape: a source is plain text, saved as UTF-8, and {tape}"
+        message = "found neither a source nor a tape: a source is plain text, saved as UTF-8, and a tape begins with the byte 01"
         png = (PROJECT / "lessons/13-colour.png").read_bytes()
         for data in (png, b"PK\x03\x04", b"l\0i\0n\0e\0", b"\x7fELF\x02", b"{\\rtf1 line}", b"\x41\x02\x03"):
             path = self.path(data)

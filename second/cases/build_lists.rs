@@ -16,15 +16,6 @@ pub fn list_of(records: &[ListedWrite]) -> Vec<u8> {
     records.iter().flat_map(bytes).collect()
 }
 
-/// The list of these records, whose clocks rise, with waits in place of the clocks.
-pub fn waits_of(records: &[ListedWrite]) -> Vec<u8> {
-    let mut list = list_of(records);
-    for (n, record) in records.iter().enumerate().skip(1) {
-        list[3 * n] = record.clock - records[n - 1].clock - 1;
-    }
-    list
-}
-
 /// The address of a known register; 0, which is unknown, for a number that no register has.
 pub fn address_of(register: Register) -> u8 {
     let known = KNOWN.iter().find(|known| known.2 == register);
@@ -51,7 +42,6 @@ mod tests {
         let listed = records_of(&[(9, 0x2A, 0), (227, 0x1B, 255)]);
         assert_eq!(list_of(&listed), [9, 0x2A, 0, 227, 0x1B, 255]);
         assert_eq!(records(&list_of(&listed)), listed);
-        assert_eq!(waits_of(&listed), [9, 0x2A, 0, 217, 0x1B, 255]);
         for (_, _, register) in KNOWN {
             assert_eq!(register_at(address_of(register)), Some(register));
         }

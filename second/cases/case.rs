@@ -1,14 +1,12 @@
-//! The cases: a single clock, a walk of clocks, a line call, a run of line calls, a tape call, a move of
-//! a tape, a check of a write list; and the playing of them.
+//! The cases: a single clock, a walk of clocks, a line call, a run of line calls, a tape call; and
+//! the playing of them.
 
 use crate::cases::build_lists::list_of;
 use crate::model::clock::{clock, Answer, RegisterWrite};
 use crate::model::line::{line, LineAnswer};
-use crate::model::line_faults::{check_list, COLUMNS};
-use crate::model::moves::{move_tape, MoveAnswer};
+use crate::model::line_faults::COLUMNS;
 use crate::model::replay::{play_line, TapeAnswer};
 use crate::model::state::State;
-use crate::model::tape::Version;
 use crate::model::write_list::ListedWrite;
 
 /// The number of clocks of a walk.
@@ -31,8 +29,6 @@ pub enum Case {
     Line(LineCase),
     Run(RunCase),
     Tape(TapeCase),
-    Move(MoveCase),
-    Check(CheckCase),
 }
 
 /// One clock: the state given to it and its write.
@@ -118,8 +114,8 @@ impl<A> Played<A> {
         first_byte: usize,
         call: impl FnOnce(&mut [u8], &mut [u8]) -> A,
     ) -> Played<A> {
-        let mut buffer = rising_bytes(usize::from(length), first_byte);
-        let mut colours = rising_bytes(usize::from(colour_length), first_byte + COLOURS_FROM);
+        let mut buffer = rising_bytes(length, first_byte);
+        let mut colours = rising_bytes(colour_length, first_byte + COLOURS_FROM);
         let answer = call(&mut buffer, &mut colours);
         Played {
             answer,
@@ -130,8 +126,8 @@ impl<A> Played<A> {
 }
 
 /// So many rising bytes from this one on, modulo 256.
-fn rising_bytes(length: usize, first_byte: usize) -> Vec<u8> {
-    let bytes = first_byte..first_byte + length;
+fn rising_bytes(length: u8, first_byte: usize) -> Vec<u8> {
+    let bytes = first_byte..first_byte + usize::from(length);
     bytes.map(|byte| byte as u8).collect()
 }
 
@@ -237,40 +233,6 @@ impl TapeCase {
         Played::new(lengths, number, |buffer, colours| {
             play_line(&self.state, &self.tape, self.place, buffer, colours)
         })
-    }
-}
-
-/// A move: the version that it moves from, the tape, and the length of the room lent to it.
-#[derive(Clone, Debug, PartialEq, Eq)]
-pub struct MoveCase {
-    pub from: Version,
-    pub tape: Vec<u8>,
-    pub room: u16,
-}
-
-impl MoveCase {
-    /// Makes the move of the record with this number: its answer, and the room as it returns, which
-    /// before held rising bytes from the number on.
-    pub fn play(&self, number: usize) -> (MoveAnswer, Vec<u8>) {
-        let mut room = rising_bytes(usize::from(self.room), number);
-        let answer = move_tape(self.from, &self.tape, &mut room);
-        (answer, room)
-    }
-}
-
-/// A check of a write list.
-#[derive(Clone, Debug, PartialEq, Eq)]
-pub struct CheckCase {
-    pub list: Vec<u8>,
-}
-
-impl CheckCase {
-    /// Makes the check: the number and the record of its refusal, both 0 if there is none.
-    pub fn play(&self) -> (u8, usize) {
-        match check_list(&self.list) {
-            Ok(()) => (0, 0),
-            Err(refusal) => (refusal.number, refusal.record),
-        }
     }
 }
 

@@ -1,10 +1,9 @@
 //! The large case file: the generated cases, written only if they make everything happen that
 //! they must.
 
-use crate::cases::case::{Case, MoveCase};
+use crate::cases::case::Case;
 use crate::cases::random::Random;
-use crate::cases::{check_cases, line_cases, move_cases, run_cases, single_cases};
-use crate::cases::{tape_cases, tight_cases, walk_cases};
+use crate::cases::{line_cases, run_cases, single_cases, tape_cases, walk_cases};
 use crate::coverage;
 use crate::reports::failure::Failure;
 use std::io::Write;
@@ -35,25 +34,12 @@ pub fn generate() -> Vec<Case> {
     let runs = made(2603, 3_000, &run_cases::GROUPS, run_cases::other);
     let tapes = tape_cases::GROUPS.repeat(4);
     let tapes = made(2604, 24_000, &tapes, tape_cases::other);
-    let tight = tight_cases::GROUPS.repeat(2);
-    let tight = made(2607, 9_000, &tight, tight_cases::other);
-    let checks = check_cases::GROUPS.repeat(2);
-    let checks = made(2609, 5_000, &checks, check_cases::other);
     let mut cases: Vec<Case> = singles.into_iter().map(Case::Clock).collect();
     cases.extend(walks.into_iter().map(Case::Walk));
     cases.extend(lines.into_iter().map(Case::Line));
     cases.extend(runs.into_iter().map(Case::Run));
     cases.extend(tapes.into_iter().map(Case::Tape));
-    cases.extend(tight.into_iter().map(Case::Tape));
-    cases.extend(moves().into_iter().map(Case::Move));
-    cases.extend(checks.into_iter().map(Case::Check));
     cases
-}
-
-/// The moves among them.
-pub fn moves() -> Vec<MoveCase> {
-    let groups = move_cases::GROUPS.repeat(2);
-    made(2608, 8_000, &groups, move_cases::other)
 }
 
 /// Writes the records of the cases. Writes nothing if the cases miss something; ends early with

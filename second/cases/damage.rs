@@ -1,9 +1,9 @@
-//! Damage done to tapes of either version: each way changes a tape at one spot.
+//! Damage done to tapes: each way changes a tape at one spot.
 
-use crate::cases::build_tapes::{bytes_before_writes, is_tight, line_places};
+use crate::cases::build_tapes::line_places;
 use crate::cases::random::Random;
 use crate::cases::random_lists::unknown_addresses;
-use crate::cases::spoil::{other_version, set_length, BAD_LENGTHS, BAD_NUMBERS};
+use crate::cases::spoil::{other_version, set_length, BAD_LENGTHS};
 use crate::model::tape::stretch;
 
 /// A way of damaging a tape that is not empty.
@@ -36,30 +36,23 @@ pub const DAMAGES: [(&str, Damage); 8] = [
     }),
 ];
 
-/// Changes the length of a line, or its number of writes; a tape without lines stays as it is.
+/// Changes the length of a line; a tape without lines stays as it is.
 fn change_length(random: &Random, tape: &mut Vec<u8>) {
     let places = line_places(tape);
-    if places.is_empty() {
-        return;
-    }
-    let place = random.pick(&places);
-    let length = stretch(tape, place).len() as u16;
-    if is_tight(tape) {
-        let number = (length / 3) as u8;
-        let bad = random.pick(&BAD_NUMBERS);
-        tape[place as usize] = random.pick(&[number + 1, number.wrapping_sub(1), bad]);
-    } else {
+    if !places.is_empty() {
+        let place = random.pick(&places);
+        let length = stretch(tape, place).len() as u16;
         let bad = random.pick(&BAD_LENGTHS);
         let changed = random.pick(&[length + 1, length + 3, length.wrapping_sub(3), bad]);
         set_length(tape, place, changed);
     }
 }
 
-/// Makes a byte of any record, 0 for its clock or wait and 1 for its address, one of these.
+/// Makes a byte of any record, 0 for its clock and 1 for its address, one of these.
 fn change_record(random: &Random, tape: &mut [u8], byte: usize, changed: &[u8]) {
     let mut records = Vec::new();
     for place in line_places(tape) {
-        let start = place as usize + bytes_before_writes(tape);
+        let start = place as usize + 2;
         records.extend((start..start + stretch(tape, place).len()).step_by(3));
     }
     if !records.is_empty() {

@@ -1,19 +1,17 @@
 //! The records of the case file, written and read: one byte for the kind, the 69 bytes of the
-//! state if a case of that kind has one, and what it has beside it.
+//! state, and what a case of that kind has beside it.
 
-use crate::cases::case::{Call, Case, CheckCase, LineCase, MoveCase, RunCase, Single, TapeCase};
-use crate::cases::case::{WaitedWrite, Walk, RUN_CALLS, WALK_WRITES};
+use crate::cases::case::{Call, Case, LineCase, RunCase, Single, TapeCase, WaitedWrite, Walk};
+use crate::cases::case::{RUN_CALLS, WALK_WRITES};
 use crate::cases::state_fields::{from_bytes, to_bytes};
 use crate::model::clock::RegisterWrite;
-use crate::model::state::State;
-use crate::model::tape::Version;
 use crate::model::write_list::records;
 use crate::reports::failure::Failure;
 use std::array;
 use std::iter;
 
 /// The names of the kinds, each at its number.
-pub const KINDS: [&str; 7] = ["clock", "walk", "line", "run", "tape", "move", "check"];
+pub const KINDS: [&str; 5] = ["clock", "walk", "line", "run", "tape"];
 
 impl Case {
     /// The number of the case's kind.
@@ -24,80 +22,41 @@ impl Case {
             Case::Line(_) => 2,
             Case::Run(_) => 3,
             Case::Tape(_) => 4,
-            Case::Move(_) => 5,
-            Case::Check(_) => 6,
         }
     }
 
     /// The case's record.
     pub fn write(&self) -> Vec<u8> {
-        let state = self.state().map(to_bytes);
-        let state = state.as_ref().map_or(&[][..], |bytes| bytes);
-        [&[self.kind() as u8], state, &self.rest()].concat()
-    }
-
-    /// The state of a case that has one.
-    fn state(&self) -> Option<&State> {
-        match self {
-            Case::Clock(single) => Some(&single.state),
-            Case::Walk(walk) => Some(&walk.state),
-            Case::Line(line) => Some(&line.state),
-            Case::Run(run) => Some(&run.state),
-            Case::Tape(tape) => Some(&tape.state),
-            Case::Move(_) | Case::Check(_) => None,
-        }
-    }
-
-    /// What the record has after kind and state.
-    fn rest(&self) -> Vec<u8> {
-        match self {
-            Case::Clock(Single { write, .. }) => {
+        let (state, rest) = match self {
+            Case::Clock(Single { state, write }) => {
                 let write = write.map(|write| [1, write.address, write.value, 0]);
-                write.unwrap_or([0; 4]).to_vec()
+                (state, write.unwrap_or([0; 4]).to_vec())
             }
-            Case::Walk(Walk { writes, .. }) => {
+            Case::Walk(Walk { state, writes }) => {
                 let bytes = |w: &WaitedWrite| [w.wait, w.write.address, w.write.value];
                 let writes: Vec<u8> = writes.iter().flat_map(bytes).collect();
-                [vec![0; 4], writes].concat()
+                (state, [vec![0; 4], writes].concat())
             }
-            Case::Line(LineCase { call, .. }) => call_bytes(call),
-            Case::Run(RunCase { calls, .. }) => {
+            Case::Line(LineCase { state, call }) => (state, call_bytes(call)),
+            Case::Run(RunCase { state, calls }) => {
                 let calls: Vec<u8> = calls.iter().flat_map(call_bytes).collect();
-                [vec![0; 4], calls].concat()
+                (state, [vec![0; 4], calls].concat())
             }
             Case::Tape(case) => {
                 let place = case.place.to_be_bytes();
                 let lengths = [case.length, case.colour_length];
-                [&lengths, &place[..], &list_bytes(&case.tape)].concat()
+                let rest = [&lengths, &place[..], &list_bytes(&case.tape)].concat();
+                (&case.state, rest)
             }
-            Case::Move(MoveCase { from, tape, room }) => {
-                let length = (tape.len() as u16).to_be_bytes();
-                [&[from.byte()], &length[..], &room.to_be_bytes(), tape].concat()
-            }
-            Case::Check(CheckCase { list }) => list_bytes(list),
-        }
+        };
+        [&[self.kind() as u8], &to_bytes(state)[..], &rest].concat()
     }
 
     /// The case of the record that the file begins with, which is taken off it; none if the record
     /// is cut or its kind unknown.
     pub fn read(file: &mut &[u8]) -> Option<Case> {
         let [kind] = take(file)?;
-        match kind {
-            5 => read_move(file).map(Case::Move),
-            6 => {
-                let list = read_list(file)?;
-                Some(Case::Check(CheckCase { list }))
-            }
-            _ => {
-                let state = from_bytes(&take(file)?);
-                Case::read_with(kind, state, file)
-            }
-        }
-    }
-
-    /// The case of this kind with a state, whose record goes on with what the file begins with, which
-    /// is taken off it; none if the record is cut or its kind unknown.
-    fn read_with(kind: u8, state: State, file: &mut &[u8]) -> Option<Case> {
+        let state = from_bytes(&take(file)?);
         Some(match kind {
             0 => {
                 let [has, address, value, _] = take(file)?;
@@ -138,19 +97,6 @@ impl Case {
     }
 }
 
-/// The move that the file begins with, which is taken off it: the version it moves from, the lengths
-/// of tape and room, and the tape; none if it is cut or there is no such version.
-fn read_move(file: &mut &[u8]) -> Option<MoveCase> {
-    let [from] = take(file)?;
-    let length = u16::from_be_bytes(take(file)?);
-    let room = u16::from_be_bytes(take(file)?);
-    Some(MoveCase {
-        from: Version::of_byte(from)?,
-        tape: read_bytes(file, length)?,
-        room,
-    })
-}
-
 /// A line call: the lengths of the object buffer and of the colour buffer, then the list.
 fn call_bytes(call: &Call) -> Vec<u8> {
     let lengths = vec![call.length, call.colour_length];
@@ -177,14 +123,9 @@ fn list_bytes(list: &[u8]) -> Vec<u8> {
 /// The write list or tape that the file begins with, which is taken off it; none if it is cut.
 fn read_list(file: &mut &[u8]) -> Option<Vec<u8>> {
     let length = u16::from_be_bytes(take(file)?);
-    read_bytes(file, length)
-}
-
-/// So many bytes that the file begins with, which are taken off it; none if there are fewer.
-fn read_bytes(file: &mut &[u8], length: u16) -> Option<Vec<u8>> {
-    let bytes = file.get(..usize::from(length))?;
-    *file = &file[bytes.len()..];
-    Some(bytes.to_vec())
+    let list = file.get(..usize::from(length))?;
+    *file = &file[list.len()..];
+    Some(list.to_vec())
 }
 
 /// The file's next bytes, which are taken off it; none if there are fewer.
@@ -218,6 +159,7 @@ mod tests {
     use super::*;
     use crate::cases::chip_cases::generate;
     use crate::cases::state_fields::LENGTH;
+    use crate::model::state::State;
     use crate::model::write_list::ListedWrite;
 
     #[test]
@@ -226,19 +168,6 @@ mod tests {
         let file: Vec<u8> = cases.iter().flat_map(Case::write).collect();
         let read: Result<Vec<Case>, Failure> = cases_of(&file).collect();
         assert!(read == Ok(cases));
-    }
-
-    #[test]
-    fn no_case_has_more_bytes_than_the_readme_says() {
-        for case in generate() {
-            match case {
-                Case::Line(line) => assert!(line.call.list.len() <= 4_096),
-                Case::Tape(tape) => assert!(tape.tape.len() <= 4_096),
-                Case::Move(moved) => assert!(moved.tape.len() <= 4_096 && moved.room <= 8_192),
-                Case::Check(check) => assert!(check.list.len() <= 4_096),
-                _ => {}
-            }
-        }
     }
 
     #[test]
@@ -276,16 +205,6 @@ mod tests {
         ] {
             assert_eq!(case.write()[1 + LENGTH..], after_the_state);
         }
-        let moved = MoveCase {
-            from: Version::Two,
-            tape: vec![7; 300],
-            room: 0x1FFE,
-        };
-        let expected = [&[5, 2, 1, 44, 0x1F, 0xFE], &[7; 300][..]].concat();
-        assert_eq!(Case::Move(moved).write(), expected);
-        let list = vec![9; 258];
-        let expected = [&[6, 1, 2], &list[..]].concat();
-        assert_eq!(Case::Check(CheckCase { list }).write(), expected);
     }
 
     #[test]
@@ -293,11 +212,7 @@ mod tests {
         let run = Case::Run(RunCase::of_lines(State::START, &[])).write();
         let text = "record 1 is cut or of an unknown kind\n";
         let unknown = [&[KINDS.len() as u8], &run[1..]].concat();
-        let moved = [5, 2, 0, 1, 0, 9];
-        let of_version_3 = [5, 3, 0, 0, 0, 9];
-        let list = [6, 0, 2, 1];
-        let cut = [&run[..run.len() - 1], &run[..1], &moved, &moved[..5], &list];
-        for second in cut.into_iter().chain([&unknown[..], &of_version_3]) {
+        for second in [&run[..run.len() - 1], &run[..1], &unknown] {
             let file = [&run[..], second].concat();
             let after: Vec<Result<Case, Failure>> = cases_of(&file).skip(1).collect();
             assert_eq!(after, [Err(Failure::Named(text.to_string()))]);

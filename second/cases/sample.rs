@@ -1,16 +1,19 @@
 //! The small case file: the first case of the large set with each outcome, and every so many of
-//! each sort.
+//! each kind.
 
-use crate::cases::build_tapes::is_tight;
 use crate::cases::case::{Case, QUIET_CALLS};
 use crate::cases::chip_cases::generate;
-use crate::model::tape::{read, Reading, Version};
+use crate::cases::record::KINDS;
+use crate::model::tape::{read, Reading};
 use crate::reports::chip_report;
 use crate::reports::failure::Failure;
 use std::io::Write;
 
 /// The most bytes of the file, and of its report.
-const MOST_BYTES: usize = 65_000;
+const MOST_BYTES: usize = 60_000;
+
+/// For each kind, one case in so many is taken.
+const ONE_IN: [usize; KINDS.len()] = [122, 20, 305, 750, 305];
 
 /// An outcome that is no refusal: acceptance, in a walk or run of all its clocks or calls.
 const ACCEPTED: u8 = 0;
@@ -18,44 +21,14 @@ const ACCEPTED: u8 = 0;
 /// The outcome of a tape call at the tape's end; the others are the numbers of refusals.
 const ENDED: u8 = u8::MAX;
 
-/// The sorts of cases, tapes and moves by version: the name, one case in how many is taken, and the
-/// outcomes that the sample must have.
-const SORTS: [(&str, usize, &[u8]); 9] = [
-    ("clock", 122, &[ACCEPTED, 1, 7]),
-    ("walk", 20, &[ACCEPTED, 1, 7]),
-    ("line", 305, &[ACCEPTED, 1, 2, 3, 4, 5, 6, 7, 11]),
-    ("run", 750, &[ACCEPTED, 3, 4, 5, 6, 7, 11]),
-    (
-        "tape",
-        305,
-        &[ACCEPTED, 1, 2, 3, 4, 5, 6, 7, 8, 9, 11, ENDED],
-    ),
-    (
-        "tape of version 2",
-        900,
-        &[ACCEPTED, 1, 2, 3, 4, 5, 7, 9, 11, ENDED],
-    ),
-    (
-        "move from version 1",
-        250,
-        &[ACCEPTED, 4, 5, 6, 7, 8, 9, 14],
-    ),
-    ("move from version 2", 250, &[ACCEPTED, 4, 5, 7, 8, 9, 14]),
-    ("check", 500, &[ACCEPTED, 4, 5, 6, 7]),
+/// For each kind, the outcomes that the sample must have.
+const REQUIRED: [&[u8]; KINDS.len()] = [
+    &[ACCEPTED, 1, 7],
+    &[ACCEPTED, 1, 7],
+    &[ACCEPTED, 1, 2, 3, 4, 5, 6, 7, 11],
+    &[ACCEPTED, 3, 4, 5, 6, 7, 11],
+    &[ACCEPTED, 1, 2, 3, 4, 5, 6, 7, 8, 9, 11, ENDED],
 ];
-
-/// The sort of a case.
-fn sort(case: &Case) -> usize {
-    match case {
-        Case::Clock(_) => 0,
-        Case::Walk(_) => 1,
-        Case::Line(_) => 2,
-        Case::Run(_) => 3,
-        Case::Tape(tape) => 4 + usize::from(is_tight(&tape.tape)),
-        Case::Move(moved) => 6 + usize::from(moved.from == Version::Two),
-        Case::Check(_) => 8,
-    }
-}
 
 /// Writes the records of the sample. Writes nothing and names what is wrong if an outcome does not
 /// occur or a size is exceeded.
@@ -65,9 +38,9 @@ pub fn write(out: &mut dyn Write) -> Result<(), Failure> {
     let mut report = Vec::new();
     chip_report::write(&mut &file[..], &mut report)?;
     let mut wrong = String::new();
-    for ((name, ..), outcomes) in SORTS.iter().zip(missing) {
+    for (kind, outcomes) in KINDS.iter().zip(missing) {
         for outcome in outcomes {
-            wrong += &format!("missing: {} with outcome {}\n", name, outcome);
+            wrong += &format!("missing: {} with outcome {}\n", kind, outcome);
         }
     }
     for (name, bytes) in [("sample", file.len()), ("report", report.len())] {
@@ -81,23 +54,23 @@ pub fn write(out: &mut dyn Write) -> Result<(), Failure> {
     Ok(out.write_all(&file)?)
 }
 
-/// The sample of these cases, and for each sort the outcomes that do not occur in it.
-fn sample(all: &[Case]) -> (Vec<Case>, [Vec<u8>; SORTS.len()]) {
-    let mut missing = SORTS.map(|(.., outcomes)| outcomes.to_vec());
-    let mut numbers = [0; SORTS.len()];
+/// The sample of these cases, and for each kind the outcomes that do not occur in it.
+fn sample(all: &[Case]) -> (Vec<Case>, [Vec<u8>; KINDS.len()]) {
+    let mut missing = REQUIRED.map(<[u8]>::to_vec);
+    let mut numbers = [0; KINDS.len()];
     let mut cases = Vec::new();
     for case in all {
-        let sort = sort(case);
-        let mut taken = numbers[sort] % SORTS[sort].1 == 0;
-        if !missing[sort].is_empty() {
+        let kind = case.kind();
+        let mut taken = numbers[kind] % ONE_IN[kind] == 0;
+        if !missing[kind].is_empty() {
             let met = outcomes(case);
-            taken |= met.iter().any(|outcome| missing[sort].contains(outcome));
-            missing[sort].retain(|outcome| !met.contains(outcome));
+            taken |= met.iter().any(|outcome| missing[kind].contains(outcome));
+            missing[kind].retain(|outcome| !met.contains(outcome));
         }
         if taken {
             cases.push(case.clone());
         }
-        numbers[sort] += 1;
+        numbers[kind] += 1;
     }
     (cases, missing)
 }
@@ -116,8 +89,6 @@ fn outcomes(case: &Case) -> Vec<u8> {
         }
         Case::Tape(tape) if read(&tape.tape, tape.place) == Ok(Reading::Ended) => vec![ENDED],
         Case::Tape(tape) => vec![tape.play(0).answer.number],
-        Case::Move(moved) => vec![moved.play(0).0.number],
-        Case::Check(check) => vec![check.play().0],
     };
     if numbers.iter().any(|&number| number != ACCEPTED) {
         numbers.retain(|&number| number != ACCEPTED);
@@ -137,7 +108,6 @@ mod tests {
         assert!((40_000..=MOST_BYTES).contains(&file.len()));
         let cases: Vec<Case> = cases_of(&file).map(Result::unwrap).collect();
         assert!(sample(&cases).1.iter().all(Vec::is_empty));
-        let all = SORTS.map(|(.., outcomes)| outcomes.to_vec());
-        assert_eq!(sample(&[]), (vec![], all));
+        assert_eq!(sample(&[]), (vec![], REQUIRED.map(<[u8]>::to_vec)));
     }
 }

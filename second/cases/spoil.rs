@@ -2,14 +2,13 @@
 //! and the place of a tape call.
 
 use crate::cases::build_lists::list_of;
-use crate::cases::build_tapes::{bytes_before_writes, is_tight, mend_length, set_tape_length};
 use crate::cases::case::{Call, LineCase, TapeCase};
 use crate::cases::random::Random;
 use crate::cases::random_lists::{known_write_at, short_list, unknown_addresses};
 use crate::cases::random_states::with_fault;
 use crate::model::tape::stretch;
 use crate::model::write_list::{records, ListedWrite, MOST_BYTES};
-use ReadingFault::{Cut, Empty, Length, LoneByte, PastEnd, PlaceBefore, TapeLength, Version};
+use ReadingFault::{Cut, Empty, Length, LoneByte, PastEnd, PlaceZero, Version};
 
 /// The numbers of the faults of a line call in the order of the checks.
 pub const LINE_FAULTS: [u8; 8] = [1, 2, 3, 11, 4, 5, 6, 7];
@@ -94,17 +93,12 @@ pub fn spoil_two_records(random: &Random, list: &mut [ListedWrite], first: u8, s
     spoil_record(random, list, earlier, first);
 }
 
-/// Numbers of writes of version 2 that are refused.
-pub const BAD_NUMBERS: [u8; 4] = [229, 230, 254, 255];
-
-/// A fault of reading. A place before the first line is 0, or under 5 in version 2; a length is that of
-/// a line, in version 2 three times its number of writes.
+/// A fault of reading.
 #[derive(Clone, Copy, Debug, PartialEq, Eq)]
 pub enum ReadingFault {
     Empty,
     Version,
-    TapeLength,
-    PlaceBefore,
+    PlaceZero,
     PastEnd,
     LoneByte,
     Length,
@@ -112,15 +106,11 @@ pub enum ReadingFault {
 }
 
 impl ReadingFault {
-    /// Every fault of a tape without the version byte 2.
-    pub const OF_VERSION_1: [ReadingFault; 7] =
-        [Empty, Version, PlaceBefore, PastEnd, LoneByte, Length, Cut];
-
-    /// Every fault of a tape with it.
-    pub const OF_VERSION_2: [ReadingFault; 5] = [TapeLength, PlaceBefore, PastEnd, Length, Cut];
+    /// Every fault.
+    pub const ALL: [ReadingFault; 7] = [Empty, Version, PlaceZero, PastEnd, LoneByte, Length, Cut];
 }
 
-/// Gives a call at a line that has writes a fault of reading that its version can have.
+/// Gives a call at a line that has writes a fault of reading.
 pub fn spoil_reading(random: &Random, case: &mut TapeCase, fault: ReadingFault) {
     let tape = &mut case.tape;
     let writes = stretch(tape, case.place).len();
@@ -128,46 +118,20 @@ pub fn spoil_reading(random: &Random, case: &mut TapeCase, fault: ReadingFault) 
     match fault {
         Empty => tape.clear(),
         Version => tape[0] = other_version(random),
-        TapeLength => spoil_tape_length(random, tape),
-        PlaceBefore if is_tight(tape) => case.place = u64::from(random.up_to(4)),
-        PlaceBefore => case.place = 0,
+        PlaceZero => case.place = 0,
         PastEnd => case.place = random.pick(&places_past_the_end(tape, case.place)),
         LoneByte => tape.truncate(place + 1),
-        Length if is_tight(tape) => tape[place] = random.pick(&BAD_NUMBERS),
         Length => set_length(tape, case.place, random.pick(&BAD_LENGTHS)),
         Cut => {
             let kept = random.pick(&[0, random.index(writes), writes - 1]);
-            tape.truncate(place + bytes_before_writes(tape) + kept);
-            mend_length(tape);
+            tape.truncate(place + 2 + kept);
         }
     }
 }
 
-/// Makes the length of a tape of version 2 a wrong one, or cuts the tape within it.
-pub fn spoil_tape_length(random: &Random, tape: &mut Vec<u8>) {
-    if random.one_in(4) {
-        tape.truncate(usize::from(random.between(1, 4)));
-    } else {
-        let length = random.pick(&wrong_tape_lengths(tape));
-        set_tape_length(tape, length);
-    }
-}
-
-/// Wrong lengths for a tape of version 2: next to the right one, with some or all of the first five
-/// bytes counted, the right one with the lowest byte first, the right one with a bit more, none, and the
-/// most.
-pub fn wrong_tape_lengths(tape: &[u8]) -> Vec<u32> {
-    let right = tape.len() as u32 - 5;
-    let mut lengths = vec![right.wrapping_sub(1), right.swap_bytes(), 0, u32::MAX];
-    lengths.extend((1..=5).map(|more| right + more));
-    lengths.extend([8, 16, 24, 31].map(|bit| right ^ 1 << bit));
-    lengths.retain(|&length| length != right);
-    lengths
-}
-
-/// A version byte neither 1 nor 2.
+/// A version byte that is not 1.
 pub fn other_version(random: &Random) -> u8 {
-    random.pick(&[0, 3, 255, random.between(3, 255)])
+    random.pick(&[0, 2, 255, random.between(2, 255)])
 }
 
 /// Places past the end of a tape: next to it, near 2^63 and the largest number, and some whose

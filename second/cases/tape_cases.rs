@@ -1,5 +1,5 @@
-//! The calls of the case file on tapes of version 1 and of unknown versions: the groups of line calls
-//! played from tapes, and the groups of what reading finds; calls on random tapes fill their number up.
+//! The tape calls of the case file: the groups of line calls played from tapes, and the groups of
+//! what reading finds; calls on random tapes fill their number up.
 
 use crate::cases::bench::{checks, PRINTED_TAPE};
 use crate::cases::build_lists::list_of;
@@ -13,6 +13,7 @@ use crate::cases::random_lists::{known_write_at, list_of_length, little_lists, s
 use crate::cases::random_states::line_start_state;
 use crate::cases::spoil::{places_past_the_end, spoil, spoil_reading, ReadingFault, BAD_LENGTHS};
 use crate::model::state::State;
+use crate::model::tape::{FIRST_PLACE, VERSION};
 
 /// The groups in their order.
 pub const GROUPS: [Group<TapeCase>; 8] = [
@@ -106,18 +107,18 @@ fn bench_tapes(random: &Random, cases: &mut Vec<TapeCase>) {
     }
 }
 
-/// Empty tapes; and each version neither 1 nor 2, the most likely ones more often, at lines, at the
+/// Empty tapes; and each version that is not 1, the most likely ones more often, at lines, at the
 /// end and outside.
 fn versions(random: &Random, cases: &mut Vec<TapeCase>) {
     for place in [0, 1, 2, 1 << 32, 1 << 63, u64::MAX].repeat(2) {
         cases.push(TapeCase::new(line_start_state(random), vec![], place));
     }
-    let all = (0..=255).chain([0, 3, 255].repeat(8));
-    for version in all.filter(|version| ![1, 2].contains(version)) {
+    let all = (0..=255).chain([0, 2, 255].repeat(8));
+    for version in all.filter(|&version| version != VERSION) {
         let mut case = ending_in(random, &[]);
         case.tape[0] = version;
         let end = case.place;
-        case.place = random.pick(&[1, 1, 0, end, end + 1]);
+        case.place = random.pick(&[FIRST_PLACE, FIRST_PLACE, 0, end, end + 1]);
         cases.push(case);
     }
 }
@@ -203,11 +204,11 @@ fn inner_places(random: &Random, cases: &mut Vec<TapeCase>) {
 }
 
 /// Each fault of reading together with each fault of the line call that it leaves: of state, h and
-/// buffers, and, where the line's bytes are there, of its records; and behind an unknown version
-/// each other fault of a tape that is not empty.
+/// buffers, and, where the line's bytes are there, of its records; and behind a version that is not
+/// 1 each other fault of a tape that is not empty.
 fn two_faults(random: &Random, cases: &mut Vec<TapeCase>) {
     use ReadingFault::{Cut, Empty, Length, Version};
-    for fault in ReadingFault::OF_VERSION_1.repeat(6) {
+    for fault in ReadingFault::ALL.repeat(6) {
         let numbers: &[u8] = match fault {
             Version | Length | Cut => &[1, 2, 3, 11, 5, 6, 7],
             _ => &[1, 2, 3, 11],

@@ -40,7 +40,7 @@ pub fn add(table: &mut Table) {
     rewritten(&mut rows);
     blanked(&mut rows);
     refused_clocks(&mut refused);
-    let [_, _, mut line, mut run, mut tape, ..] = table.by_kind();
+    let [_, _, mut line, mut run, mut tape] = table.by_kind();
     edges_of_lines(&mut line);
     lines(&mut line);
     lines(&mut tape.under("played, "));

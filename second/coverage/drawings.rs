@@ -77,7 +77,7 @@ pub fn add(table: &mut Table) {
         rows.each(FEW, "{} in a walk", ODD)
             .when(move |seen, odd| seen.clock.in_walk && odd(&seen.given, n));
     }
-    let [_, _, mut line, mut run, mut tape, ..] = table.by_kind();
+    let [_, _, mut line, mut run, mut tape] = table.by_kind();
     for (of, n) in PLAYERS {
         lines(&mut line, of, n);
         lines(&mut tape.under("played, "), of, n);

@@ -19,7 +19,7 @@ pub fn add(table: &mut Table) {
 
 /// Every register on accepted clocks, in accepted lines, in runs and in played lines.
 fn written_registers(table: &mut Table) {
-    let [mut rows, _, line, run, tape, ..] = table.by_kind();
+    let [mut rows, _, line, run, tape] = table.by_kind();
     let registers = || KNOWN.map(|(_, name, register)| (name, register));
     rows.each(8, "{} written in a single record", registers())
         .when(|seen, register| !seen.clock.in_walk && seen.wrote(register));
@@ -60,7 +60,7 @@ fn hmoves(table: &mut Table) {
 
 /// Motion under way and the late flag at a line's start and end.
 fn motion_and_late_flag(table: &mut Table) {
-    let [_, _, mut line, _, mut tape, ..] = table.by_kind();
+    let [_, _, mut line, _, mut tape] = table.by_kind();
     let hmove = [("without", false), ("with", true)];
     line.each(FEW, "late flag set at the start, {} HMOVE at 0", hmove)
         .when(|seen, at_0| {
@@ -82,7 +82,7 @@ fn motion_and_late_flag(table: &mut Table) {
 
 /// What accepted lines show.
 fn columns(table: &mut Table) {
-    let [_, _, mut line, _, tape, ..] = table.by_kind();
+    let [_, _, mut line, _, tape] = table.by_kind();
     for column in [0, 159] {
         line.each(FEW, &format!("{{}} first lit at column {column}"), OBJECTS)
             .when(move |seen, object| seen.accepted() && seen.first_column(object) == Some(column));

@@ -1,11 +1,9 @@
 //! Coverage: one table of what the cases must make happen, in the order of the paper, and one loop
 //! that runs every case and counts.
 
-mod checks;
 mod colours;
 mod drawings;
 mod lines;
-mod moves;
 mod reflection;
 mod refusals;
 mod runs;
@@ -13,7 +11,6 @@ mod seen;
 mod steps;
 mod table;
 mod tapes;
-mod tight_tapes;
 
 use crate::cases::case::{Case, Walk};
 use seen::{Kind, Seen};
@@ -22,7 +19,7 @@ use table::Table;
 /// The whole table.
 fn table() -> Table {
     let mut table = Table::default();
-    let all: [fn(&mut Table); 11] = [
+    let all: [fn(&mut Table); 8] = [
         refusals::add,
         steps::add,
         lines::add,
@@ -31,9 +28,6 @@ fn table() -> Table {
         reflection::add,
         runs::add,
         tapes::add,
-        tight_tapes::add,
-        moves::add,
-        checks::add,
     ];
     for add in all {
         add(&mut table);
@@ -52,7 +46,7 @@ pub fn missing(cases: &[Case]) -> String {
     missing_of(table(), cases)
 }
 
-/// The same for any table. Only clocks are played whether or not rows are left to ask of them.
+/// The same for any table. A line, run or tape is played only if rows are left to ask of it.
 fn missing_of(mut table: Table, cases: &[Case]) -> String {
     for (number, case) in cases.iter().enumerate() {
         match case {
@@ -60,12 +54,8 @@ fn missing_of(mut table: Table, cases: &[Case]) -> String {
             Case::Walk(walk) => see_walk(&mut table, walk),
             Case::Line(line) if table.asks(Kind::Line) => table.see(&Seen::line(number, line)),
             Case::Run(run) if table.asks(Kind::Run) => table.see(&Seen::run(number, run)),
-            Case::Tape(tape) if table.asks(Kind::of_tape(&tape.tape)) => {
-                table.see(&Seen::tape(number, tape));
-            }
-            Case::Move(moved) if table.asks(Kind::Move) => table.see(&Seen::moved(number, moved)),
-            Case::Check(check) if table.asks(Kind::Check) => table.see(&Seen::check(check)),
-            Case::Line(_) | Case::Run(_) | Case::Tape(_) | Case::Move(_) | Case::Check(_) => {}
+            Case::Tape(tape) if table.asks(Kind::Tape) => table.see(&Seen::tape(number, tape)),
+            Case::Line(_) | Case::Run(_) | Case::Tape(_) => {}
         }
     }
     table.text(|name, times| format!("missing: {} ({} more)\n", name, times))
@@ -91,13 +81,11 @@ mod tests {
     use crate::cases::bench::PRINTED_TAPE;
     use crate::cases::build_lists::records_of;
     use crate::cases::build_tapes::tape_of;
-    use crate::cases::case::{Call, LineCase, MoveCase, RunCase, Single, TapeCase};
-    use crate::cases::case::{WaitedWrite, WALK_WRITES};
+    use crate::cases::case::{Call, LineCase, RunCase, Single, TapeCase, WaitedWrite, WALK_WRITES};
     use crate::cases::spoil::ReadingFault;
     use crate::model::clock::RegisterWrite;
     use crate::model::registers::Register;
     use crate::model::state::State;
-    use crate::model::tape::Version;
     use crate::model::write_list::ListedWrite;
     use std::collections::HashSet;
 
@@ -206,26 +194,18 @@ mod tests {
     #[test]
     fn a_refused_reading_is_known_by_its_fault() {
         let cut = [1, 0, 6, 9, 0, 0];
-        let tight_cut = [2, 0, 0, 0, 2, 1, 229];
         for (bytes, place, fault) in [
             (&[][..], 1, ReadingFault::Empty),
-            (&[3, 0], 1, ReadingFault::Version),
-            (&cut, 0, ReadingFault::PlaceBefore),
+            (&[2, 0], 1, ReadingFault::Version),
+            (&cut, 0, ReadingFault::PlaceZero),
             (&cut, 7, ReadingFault::PastEnd),
             (&cut, u64::MAX, ReadingFault::PastEnd),
             (&cut, 5, ReadingFault::LoneByte),
             (&cut, 2, ReadingFault::Length),
             (&cut, 1, ReadingFault::Cut),
-            (&[2, 0, 0, 0], 1, ReadingFault::TapeLength),
-            (&[2, 0, 0, 0, 1], 5, ReadingFault::TapeLength),
-            (&tight_cut, 4, ReadingFault::PlaceBefore),
-            (&tight_cut, 8, ReadingFault::PastEnd),
-            (&tight_cut, 6, ReadingFault::Length),
-            (&tight_cut, 5, ReadingFault::Cut),
         ] {
             let seen = tape(bytes, place);
-            let both = [&ReadingFault::OF_VERSION_1[..], &ReadingFault::OF_VERSION_2];
-            for other in both.concat() {
+            for other in ReadingFault::ALL {
                 assert_eq!(seen.unread(other), other == fault);
             }
             assert!(!seen.ended() && !seen.accepted());
@@ -238,47 +218,6 @@ mod tests {
         let cut = tape(&[1, 0, 9, 255, 0, 0, 7], 1);
         assert_eq!((cut.tape.length, cut.tape.missing), (9, 5));
         assert_eq!(faults_of(&cut), [4, 5, 7]);
-    }
-
-    #[test]
-    fn a_line_of_version_2_is_known_by_its_summed_clocks() {
-        let bytes = [2, 0, 0, 0, 11, 3, 9, 4, 0, 255, 0, 0, 0, 4, 0, 0];
-        let seen = tape(&bytes, 5);
-        assert_eq!(
-            (seen.kind, seen.number, seen.record),
-            (Kind::TightTape, 5, 1)
-        );
-        assert_eq!(seen.summed_clocks(), [9, 265, 266]);
-        assert_eq!(faults_of(&seen), [5, 7, 5]);
-        assert!(seen.begins_line(15) && seen.is_first() && !seen.is_inner());
-        assert!(tape(&bytes, 6).is_inner() && tape(&bytes, 16).ended());
-    }
-
-    #[test]
-    fn a_move_is_known_by_its_faults_line_by_line() {
-        let seen = |from, tape: &[u8], room| {
-            let tape = tape.to_vec();
-            Seen::moved(0, &MoveCase { from, tape, room })
-        };
-        let faults = |seen: &Seen| -> Vec<(usize, u8, usize)> {
-            let faults = seen.moved.faults.iter();
-            faults
-                .map(|fault| (fault.line, fault.number, fault.record))
-                .collect()
-        };
-        let bad = [1, 0, 0, 0, 6, 9, 4, 0, 9, 0, 0, 0, 4];
-        let refused = seen(Version::One, &bad, 0);
-        assert_eq!((refused.number, refused.record), (6, 1));
-        assert_eq!(faults(&refused), [(1, 6, 1), (1, 7, 1), (2, 4, 0)]);
-        let bad = [2, 0, 0, 0, 9, 0, 1, 228, 0, 0, 230, 9, 255, 0];
-        let refused = seen(Version::Two, &bad, 0);
-        assert_eq!((refused.number, refused.record), (5, 0));
-        assert_eq!(faults(&refused), [(1, 5, 0), (1, 7, 0), (2, 4, 0)]);
-        assert_eq!(faults(&seen(Version::One, &bad, 0)), [(0, 8, 0)]);
-        assert_eq!(faults(&seen(Version::Two, &bad[..9], 0)), [(0, 9, 0)]);
-        let accepted = seen(Version::One, &PRINTED_TAPE, 30);
-        assert_eq!((accepted.number, accepted.moved.length), (0, 21));
-        assert_eq!((accepted.moved.lines, accepted.moved.needed), (4, Some(21)));
     }
 
     #[test]

@@ -11,7 +11,7 @@ use crate::model::state::State;
 
 /// Adds all of them.
 pub fn add(table: &mut Table) {
-    let [mut rows, _, mut line, mut run, mut tape, ..] = table.by_kind();
+    let [mut rows, _, mut line, mut run, mut tape] = table.by_kind();
     for (of, n) in PLAYERS {
         let rows = &mut rows.under(&format!("{of}: "));
         graphics_chosen(rows, n);

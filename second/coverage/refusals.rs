@@ -47,7 +47,7 @@ fn refused_for(seen: &Seen, fault: Fault) -> bool {
 /// Refusal 1 for each field alone out of range and each live flag alone with slot 16; for clocks
 /// also at each of the bytes next to a field's range and at 255.
 fn bad_states(table: &mut Table) {
-    let [_, mut rows, mut line, _, mut tape, ..] = table.by_kind();
+    let [_, mut rows, mut line, _, mut tape] = table.by_kind();
     for (n, field) in checked_fields() {
         let name = format!("refusal 1 for {} alone being {{}}", field.name);
         rows.each(3, &name, named(field.beyond()))
@@ -70,7 +70,7 @@ fn bad_states(table: &mut Table) {
 
 /// Each refusal by a line call's only fault, and refusals 2, 3 and 11 at the edges.
 fn whole_calls(table: &mut Table) {
-    let [_, _, mut line, _, mut tape, ..] = table.by_kind();
+    let [_, _, mut line, _, mut tape] = table.by_kind();
     let only = |seen: &Seen, number| seen.refused_with(number) && seen.line.faults.len() == 1;
     line.each(10, "{} the only fault", named(LINE_FAULTS))
         .when(only);
@@ -111,7 +111,7 @@ fn bad_lists(table: &mut Table) {
 
 /// Refusals 5 to 7 by the record's index and its clock.
 fn bad_records(table: &mut Table) {
-    let [_, _, mut line, _, mut tape, ..] = table.by_kind();
+    let [_, _, mut line, _, mut tape] = table.by_kind();
     for (number, least) in [(5, 0), (6, 1), (7, 0)] {
         let at = move |seen: &Seen, index| seen.refused_with(number) && seen.record == index;
         let mut line = line.under(&format!("refused with {number} for "));
@@ -154,7 +154,7 @@ fn unknown_registers(table: &mut Table) {
 /// A fault of the whole call before every later one; a bad record before a later one; the clock's
 /// fault before the register's in one record.
 fn orders(table: &mut Table) {
-    let [_, _, mut line, _, mut tape, ..] = table.by_kind();
+    let [_, _, mut line, _, mut tape] = table.by_kind();
     for (n, first) in LINE_FAULTS.into_iter().take(5).enumerate() {
         let before = move |seen: &Seen, second| {
             seen.refused_with(first) && seen.has(|fault| fault.number == second)

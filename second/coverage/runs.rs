@@ -12,7 +12,7 @@ use crate::reports::demand3::{LAST_GUARDED_CLOCK, LAST_HMOVE_CLOCK};
 
 /// Adds all of them.
 pub fn add(table: &mut Table) {
-    let [_, _, _, mut rows, ..] = table.by_kind();
+    let [.., mut rows, _] = table.by_kind();
     first_states(&mut rows);
     calls(&mut rows);
     claims(&mut rows);

@@ -1,8 +1,8 @@
-//! What the rows of the table are asked of: a clock, a line call, a run, a tape call, a move or a
-//! check, with what it was given and what came of it.
+//! What the rows of the table are asked of: a clock, a line call, a run or a tape call, with what
+//! it was given and what came of it.
 
-use crate::cases::build_tapes::{bytes_before_writes, is_tight, line_places, mend_length};
-use crate::cases::case::{Call, CheckCase, LineCase, MoveCase, Played, RunCase, TapeCase};
+use crate::cases::build_tapes::line_places;
+use crate::cases::case::{Call, LineCase, Played, RunCase, TapeCase};
 use crate::cases::spoil::ReadingFault;
 use crate::model::clock::{run, Done, RegisterWrite};
 use crate::model::first_lit::{first_lit, shows};
@@ -11,8 +11,7 @@ use crate::model::object::is_start;
 use crate::model::refusal::Refusal;
 use crate::model::registers::{register_at, Register};
 use crate::model::state::{State, NO_MOTION};
-use crate::model::tape::{first_place, read, stretch, Reading, Version};
-use crate::model::waits::with_clocks;
+use crate::model::tape::{read, stretch, Reading, FIRST_PLACE, VERSION};
 use crate::model::write_list::{records, ListedWrite};
 use crate::reports::demand3::{clocks_of, Finding, Line, PlayedRun};
 
@@ -24,19 +23,6 @@ pub enum Kind {
     Line,
     Run,
     Tape,
-    TightTape,
-    Move,
-    Check,
-}
-
-impl Kind {
-    /// The kind of a call on a tape.
-    pub fn of_tape(tape: &[u8]) -> Kind {
-        match is_tight(tape) {
-            true => Kind::TightTape,
-            false => Kind::Tape,
-        }
-    }
 }
 
 /// What was seen; a part that its kind does not have is empty. The refusal's number and record are
@@ -51,7 +37,6 @@ pub struct Seen {
     pub line: LinePart,
     pub findings: Vec<Option<Finding>>,
     pub tape: TapePart,
-    pub moved: MovePart,
 }
 
 /// A clock's write, what it did, and whether it stands in a walk and after an HMOVE of it.
@@ -89,8 +74,8 @@ pub struct SeenCall {
 }
 
 /// The tape, the place given and the one handed back; the fault for which reading is refused; the
-/// length that stands at the place and how many of the line's bytes are missing, both 0 if none stands
-/// there; and those of the line's bytes that are there, as the tape holds them.
+/// length that stands at the place and how many of the line's bytes are missing, both 0 if not two
+/// bytes stand there.
 #[derive(Default)]
 pub struct TapePart {
     pub bytes: Vec<u8>,
@@ -99,28 +84,6 @@ pub struct TapePart {
     fault: Option<ReadingFault>,
     pub length: usize,
     pub missing: usize,
-    pub stretch: Vec<u8>,
-}
-
-/// The version that a tape is moved from, the room lent, the moved length, and the length that the room
-/// needs if no line is refused; the lines that are read, and all faults but that of the room: those of
-/// each line one after another, up to what reading refuses.
-#[derive(Default)]
-pub struct MovePart {
-    pub from: u8,
-    pub room: usize,
-    pub length: usize,
-    pub needed: Option<usize>,
-    pub lines: usize,
-    pub faults: Vec<LineFault>,
-}
-
-/// A fault of a move: the line and the record that have it, and, if reading is refused, for what.
-pub struct LineFault {
-    pub line: usize,
-    pub number: u8,
-    pub record: usize,
-    pub reading: Option<ReadingFault>,
 }
 
 impl Seen {
@@ -136,7 +99,6 @@ impl Seen {
             line: LinePart::default(),
             findings: vec![],
             tape: TapePart::default(),
-            moved: MovePart::default(),
         }
     }
 
@@ -185,7 +147,7 @@ impl Seen {
 
     /// The call of the tape record with this number.
     pub fn tape(number: usize, case: &TapeCase) -> Seen {
-        let mut seen = Seen::new(Kind::of_tape(&case.tape), &case.state);
+        let mut seen = Seen::new(Kind::Tape, &case.state);
         let played = case.play(number);
         let answer = played.answer;
         (seen.number, seen.record, seen.after) = (answer.number, answer.record, answer.state);
@@ -193,15 +155,9 @@ impl Seen {
         let call = Call {
             length: case.length,
             colour_length: case.colour_length,
-            list: match is_tight(&case.tape) {
-                true => with_clocks(there),
-                false => there.to_vec(),
-            },
+            list: there.to_vec(),
         };
         seen.set_line(&call);
-        if is_tight(&case.tape) {
-            seen.line.faults.retain(|fault| fault.number != 6);
-        }
         seen.set_buffers(&played);
         match read(&case.tape, case.place) {
             Ok(Reading::Line { .. }) => {
@@ -218,44 +174,8 @@ impl Seen {
             next_place: answer.place,
             length,
             missing: length - there.len(),
-            stretch: there.to_vec(),
             ..seen.tape
         };
-        seen
-    }
-
-    /// The move of the record with this number.
-    pub fn moved(number: usize, case: &MoveCase) -> Seen {
-        let mut seen = Seen::new(Kind::Move, &State::START);
-        let (answer, _) = case.play(number);
-        (seen.number, seen.record) = (answer.number, answer.record);
-        seen.tape.bytes = case.tape.clone();
-        let (lines, faults) = faults_of_move(case.from, &case.tape);
-        let needed = faults.is_empty().then(|| match case.from {
-            Version::One => case.tape.len() + 4 - lines,
-            Version::Two => case.tape.len() + lines - 4,
-        });
-        seen.moved = MovePart {
-            from: case.from.byte(),
-            room: usize::from(case.room),
-            length: answer.length,
-            needed,
-            lines,
-            faults,
-        };
-        seen
-    }
-
-    /// The check of a write list.
-    pub fn check(case: &CheckCase) -> Seen {
-        let mut seen = Seen::new(Kind::Check, &State::START);
-        (seen.number, seen.record) = case.play();
-        let call = Call {
-            list: case.list.clone(),
-            ..Call::with(&[])
-        };
-        seen.set_line(&call);
-        seen.add_call(&State::START, &call, seen.number, &[]);
         seen
     }
 
@@ -287,19 +207,14 @@ impl Seen {
 
     /// Whether a line call was accepted: that of a line, or that of a tape, which was played.
     pub fn accepted(&self) -> bool {
-        let ended = self.is_of_tape() && self.tape.next_place == 0;
+        let ended = self.kind == Kind::Tape && self.tape.next_place == 0;
         self.number == 0 && !self.line.calls.is_empty() && !ended
     }
 
     /// Whether a clock or a line call was refused with this number; for a tape that of the line
     /// which reading finds.
     pub fn refused_with(&self, number: u8) -> bool {
-        self.number == number && (!self.is_of_tape() || !self.line.calls.is_empty())
-    }
-
-    /// Whether it is a call on a tape.
-    fn is_of_tape(&self) -> bool {
-        matches!(self.kind, Kind::Tape | Kind::TightTape)
+        self.number == number && (self.kind != Kind::Tape || !self.line.calls.is_empty())
     }
 
     /// Whether the line call has a fault of which this holds.
@@ -414,7 +329,7 @@ impl Seen {
     /// The fault for which reading would be refused if the version byte were right.
     pub fn fault_but_version(&self) -> Option<ReadingFault> {
         let mut tape = self.tape.bytes.clone();
-        *tape.first_mut()? = 1;
+        *tape.first_mut()? = VERSION;
         reading_fault(&tape, self.tape.place)
     }
 
@@ -426,7 +341,7 @@ impl Seen {
 
     /// Whether the place is that of a tape's first line.
     pub fn is_first(&self) -> bool {
-        self.tape.place == first_place(&self.tape.bytes)
+        self.tape.place == FIRST_PLACE
     }
 
     /// Whether a line of the tape begins at a place.
@@ -437,35 +352,12 @@ impl Seen {
     /// Whether the place is within the tape and no border of a line.
     pub fn is_inner(&self) -> bool {
         let (tape, place) = (&self.tape.bytes, self.tape.place);
-        let border = place == end_of_lines(tape) || self.begins_line(place);
-        (first_place(tape)..=tape.len() as u64).contains(&place) && !border
-    }
-
-    /// The clocks of the line's records by the rule of version 2, summed without a limit.
-    pub fn summed_clocks(&self) -> Vec<usize> {
-        let mut first_free = 0;
-        let waits = self.tape.stretch.chunks_exact(3);
-        let clocks = waits.map(|record| {
-            let clock = first_free + usize::from(record[0]);
-            first_free = clock + 1;
-            clock
-        });
-        clocks.collect()
-    }
-
-    /// The length that stands before the lines of a tape of version 2, and the right one; none if the
-    /// tape is cut within it.
-    pub fn tape_lengths(&self) -> Option<(u32, u32)> {
-        let bytes: [u8; 4] = self.tape.bytes.get(1..5)?.try_into().ok()?;
-        let right = self.tape.bytes.len() - 5;
-        Some((u32::from_be_bytes(bytes), right as u32))
-    }
-
-    /// The same tape, of version 2, with the right length.
-    pub fn mended(&self) -> Vec<u8> {
-        let mut tape = self.tape.bytes.clone();
-        mend_length(&mut tape);
-        tape
+        let after = match line_places(tape).last() {
+            Some(&last) => last + 2 + stretch(tape, last).len() as u64,
+            None => FIRST_PLACE,
+        };
+        let border = place == after || self.begins_line(place);
+        (1..=tape.len() as u64).contains(&place) && !border
     }
 }
 
@@ -478,85 +370,30 @@ fn faults_of(given: &State, call: &Call) -> Vec<Refusal> {
     line_faults(given, &call.list, lengths)
 }
 
-/// The length that stands at a place of a tape and the line's bytes that are there; 0 and none if no
-/// whole length stands there.
+/// The length that stands at a place of a tape and the line's bytes that are there; 0 and none if
+/// not two bytes stand there.
 fn line_bytes(tape: &[u8], place: u64) -> (usize, &[u8]) {
-    if place < first_place(tape) || place > tape.len() as u64 {
-        return (0, &[]);
-    }
-    let (length, writes) = match &tape[place as usize..] {
-        [number, writes @ ..] if is_tight(tape) => (3 * usize::from(*number), writes),
-        [high, low, writes @ ..] if !is_tight(tape) => {
-            (usize::from(u16::from_be_bytes([*high, *low])), writes)
+    let place = usize::try_from(place).ok().filter(|&place| place > 0);
+    match place.and_then(|place| tape.get(place..)) {
+        Some([high, low, writes @ ..]) => {
+            let length = usize::from(u16::from_be_bytes([*high, *low]));
+            (length, &writes[..length.min(writes.len())])
         }
-        _ => (0, &[][..]),
-    };
-    (length, &writes[..length.min(writes.len())])
+        _ => (0, &[]),
+    }
 }
 
-/// The fault for which reading is refused, by its number, the tape's length and the place.
+/// The fault for which reading is refused, by its number and the place.
 fn reading_fault(tape: &[u8], place: u64) -> Option<ReadingFault> {
     let end = tape.len() as u64;
     let fault = match read(tape, place).err()?.number {
         8 if tape.is_empty() => ReadingFault::Empty,
         8 => ReadingFault::Version,
         4 => ReadingFault::Length,
-        _ if is_tight(tape) && read(tape, end).is_err() => ReadingFault::TapeLength,
-        _ if place < first_place(tape) => ReadingFault::PlaceBefore,
+        _ if place == 0 => ReadingFault::PlaceZero,
         _ if place > end => ReadingFault::PastEnd,
-        _ if place + 1 == end && !is_tight(tape) => ReadingFault::LoneByte,
+        _ if place + 1 == end => ReadingFault::LoneByte,
         _ => ReadingFault::Cut,
     };
     Some(fault)
-}
-
-/// The place after the last line that is read, from the first one on.
-pub fn end_of_lines(tape: &[u8]) -> u64 {
-    match line_places(tape).last() {
-        Some(&last) => last + (bytes_before_writes(tape) + stretch(tape, last).len()) as u64,
-        None => first_place(tape),
-    }
-}
-
-/// The number of lines that are read, and all faults of a move of a tape from this version but that of
-/// the room.
-pub fn faults_of_move(from: Version, tape: &[u8]) -> (usize, Vec<LineFault>) {
-    if tape.first() != Some(&from.byte()) {
-        let fault = LineFault {
-            line: 0,
-            number: 8,
-            record: 0,
-            reading: None,
-        };
-        return (0, vec![fault]);
-    }
-    let mut faults = Vec::new();
-    let places = line_places(tape);
-    for (line, &place) in places.iter().enumerate() {
-        faults.extend(record_faults(tape, place, line));
-    }
-    let end = end_of_lines(tape);
-    if let Err(refusal) = read(tape, end) {
-        faults.push(LineFault {
-            line: places.len(),
-            number: refusal.number,
-            record: 0,
-            reading: reading_fault(tape, end),
-        });
-    }
-    (places.len(), faults)
-}
-
-/// The faults of the records of the line at a place, as far as its bytes are there; it is the line with
-/// this number.
-pub fn record_faults(tape: &[u8], place: u64, line: usize) -> Vec<LineFault> {
-    let seen = Seen::tape(0, &TapeCase::new(State::START, tape.to_vec(), place));
-    let faults = seen.line.faults.iter().filter(|fault| fault.number != 4);
-    let faults = faults.map(|fault| LineFault {
-        line,
-        number: fault.number,
-        record: fault.record,
-        reading: None,
-    });
-    faults.collect()
 }

@@ -36,23 +36,19 @@ struct Row {
 /// The rows that have not yet happened often enough, by the kind that they are asked of.
 #[derive(Default)]
 pub struct Table {
-    rows: [Vec<Row>; 8],
+    rows: [Vec<Row>; 5],
 }
 
 impl Table {
-    /// The rows of each kind, to add to: accepted clocks, refused clocks, lines, runs, tapes, tapes of
-    /// version 2, moves, checks.
-    pub fn by_kind(&mut self) -> [Rows<'_>; 8] {
-        let [clock, refused_clock, line, run, tape, tight, moved, check] = &mut self.rows;
+    /// The rows of each kind, to add to: accepted clocks, refused clocks, lines, runs, tapes.
+    pub fn by_kind(&mut self) -> [Rows<'_>; 5] {
+        let [clock, refused_clock, line, run, tape] = &mut self.rows;
         [
             Rows(String::new(), clock),
             Rows(String::new(), refused_clock),
             Rows("line: ".to_string(), line),
             Rows("run: ".to_string(), run),
             Rows("tape: ".to_string(), tape),
-            Rows("tape of version 2: ".to_string(), tight),
-            Rows("move: ".to_string(), moved),
-            Rows("check: ".to_string(), check),
         ]
     }
 

@@ -1,8 +1,7 @@
-//! The rows for tape calls but those of version 2: every outcome of reading, and reading's refusals
-//! before the line's.
+//! The rows for tape calls: every outcome of reading, and reading's refusals before the line's.
 
 use crate::cases::spoil::ReadingFault::{
-    self, Cut, Empty, Length, LoneByte, PastEnd, PlaceBefore, Version,
+    self, Cut, Empty, Length, LoneByte, PastEnd, PlaceZero, Version,
 };
 use crate::coverage::seen::Seen;
 use crate::coverage::table::{named, Rows, Table, FEW};
@@ -11,7 +10,7 @@ use crate::model::write_list::MOST_BYTES;
 
 /// Adds all of them.
 pub fn add(table: &mut Table) {
-    let [_, _, _, _, mut rows, ..] = table.by_kind();
+    let [.., mut rows] = table.by_kind();
     versions(&mut rows);
     places(&mut rows);
     lone_length_bytes(&mut rows);
@@ -23,11 +22,11 @@ pub fn add(table: &mut Table) {
     reading_orders(&mut rows);
 }
 
-/// Refusal 8 by an empty tape and by each version neither 1 nor 2.
+/// Refusal 8 by an empty tape and by each version that is not 1.
 fn versions(rows: &mut Rows) {
     rows.row(10, "refused with 8, empty")
         .when(|seen| seen.unread(Empty));
-    for (times, versions) in [(FEW, vec![0, 3, 255]), (1, (4..255).collect())] {
+    for (times, versions) in [(FEW, vec![0, 2, 255]), (1, (3..255).collect())] {
         rows.each(times, "refused with 8 for version {}", named(versions))
             .when(|seen, version| seen.unread(Version) && seen.tape.bytes[0] == version);
     }
@@ -39,7 +38,7 @@ fn versions(rows: &mut Rows) {
 /// place in its lower bits.
 fn places(rows: &mut Rows) {
     rows.row(10, "refused with 9 for place 0")
-        .when(|seen| seen.unread(PlaceBefore));
+        .when(|seen| seen.unread(PlaceZero));
     let name = "refused with 9 for a place {} past the end";
     rows.each(FEW, name, named([1, 2, 3])).when(|seen, past| {
         seen.unread(PastEnd) && seen.tape.place == seen.tape.bytes.len() as u64 + past
@@ -137,10 +136,10 @@ fn inner_places(rows: &mut Rows) {
 /// Reading's refusals before the line's: each with each fault of state, h and buffers, and of the
 /// records where the line's bytes are there; the version before every other fault of reading.
 fn reading_orders(rows: &mut Rows) {
-    for fault in ReadingFault::OF_VERSION_1 {
+    for fault in ReadingFault::ALL {
         let present = match fault {
             Version | Length | Cut => vec![1, 2, 3, 11, 5, 6, 7],
-            _ => vec![1, 2, 3, 11],
+            Empty | PlaceZero | PastEnd | LoneByte => vec![1, 2, 3, 11],
         };
         let name = format!("{fault:?} refused, {{}} present");
         rows.each(FEW, &name, named(present))
@@ -148,7 +147,7 @@ fn reading_orders(rows: &mut Rows) {
                 seen.unread(fault) && seen.has(|fault| fault.number == number)
             });
     }
-    for behind in [PlaceBefore, PastEnd, LoneByte, Length, Cut] {
+    for behind in [PlaceZero, PastEnd, LoneByte, Length, Cut] {
         rows.row(FEW, &format!("Version refused, {behind:?} present"))
             .when(move |seen| seen.unread(Version) && seen.fault_but_version() == Some(behind));
     }

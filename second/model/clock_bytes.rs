@@ -9,7 +9,7 @@ use crate::model::line_faults::COLUMNS;
 use crate::model::object::{Object, P0, P1};
 use crate::model::replay::play_line;
 use crate::model::state::State;
-use crate::model::tape::{first_place, write_list};
+use crate::model::tape::{stretch, FIRST_PLACE};
 use crate::model::write_list::writes_by_clock;
 use std::io::{self, Read, Write};
 
@@ -34,24 +34,24 @@ fn clock_bytes(number: u16, tape: &[u8]) -> Vec<u8> {
         return Vec::new();
     }
     match given_to_line(number, tape) {
-        Some((state, list)) => records(state, &list),
+        Some((state, list)) => records(state, list),
         None => Vec::new(),
     }
 }
 
 /// The state and the write list that the line with this number is given; none where the tape ends
 /// before it, or where it or a line before it is refused.
-fn given_to_line(number: u16, tape: &[u8]) -> Option<(State, Vec<u8>)> {
+fn given_to_line(number: u16, tape: &[u8]) -> Option<(State, &[u8])> {
     let mut given = None;
     let mut state = State::START;
-    let mut place = first_place(tape);
+    let mut place = FIRST_PLACE;
     for _ in 0..=number {
         let (mut objects, mut colours) = ([0; COLUMNS], [0; COLUMNS]);
         let answer = play_line(&state, tape, place, &mut objects, &mut colours);
         if answer.place == 0 {
             return None;
         }
-        given = Some((state, write_list(tape, place)));
+        given = Some((state, stretch(tape, place)));
         state = answer.state;
         place = answer.place;
     }

@@ -2,7 +2,7 @@
 
 use std::io::Read;
 
-/// The most bytes of a tape that a program plays, or that is moved.
+/// The most bytes of a tape that is played.
 pub const MOST_TAPE_BYTES: usize = 65_536;
 
 /// The bytes of an input up to its end or its first read error, at most so many.

@@ -1,5 +1,5 @@
-//! The faults of a line call in the order of the checks, refusals 1 to 7 and 11, and those of its
-//! write list, refusals 4 to 7: the first of them is the call's refusal.
+//! The faults of a line call in the order of the checks, refusals 1 to 7 and 11: the first of
+//! them is the call's refusal.
 
 use crate::model::refusal::Refusal;
 use crate::model::registers::register_at;
@@ -16,17 +16,27 @@ pub struct Lengths {
     pub colours: usize,
 }
 
-/// All faults of a call with this state, write list and lengths of the buffers: those of state and
-/// buffers, then those of the list.
+/// All faults of a call with this state, write list and lengths of the buffers: those of the whole
+/// call, then those of the records, one record after another.
 pub fn line_faults(given: &State, list: &[u8], lengths: Lengths) -> Vec<Refusal> {
-    let mut faults = call_faults(given, lengths);
-    faults.extend(list_faults(list));
+    let mut faults = call_faults(given, list, lengths);
+    let mut before = None;
+    for (index, record) in records(list).into_iter().enumerate() {
+        for number in record_faults(record, before) {
+            faults.push(Refusal {
+                number,
+                record: index,
+            });
+        }
+        before = Some(record.clock);
+    }
     faults
 }
 
-/// The faults of state and buffers: (1) a bad state, (2) h not 0, (3) a line buffer not of 160 bytes,
-/// (11) a colour buffer not of 160 bytes.
-fn call_faults(given: &State, lengths: Lengths) -> Vec<Refusal> {
+/// The faults of the whole call: (1) a bad state, (2) h not 0, (3) a line buffer not of 160 bytes,
+/// (11) a colour buffer not of 160 bytes, (4) a list of a length that is no multiple of 3 or over
+/// 684.
+fn call_faults(given: &State, list: &[u8], lengths: Lengths) -> Vec<Refusal> {
     let mut faults = Vec::new();
     if let Err(refusal) = given.check() {
         faults.push(refusal);
@@ -40,33 +50,8 @@ fn call_faults(given: &State, lengths: Lengths) -> Vec<Refusal> {
     if lengths.colours != COLUMNS {
         faults.push(Refusal::without_record(11));
     }
-    faults
-}
-
-/// The check of a write list alone. The first of its faults refuses it.
-pub fn check_list(list: &[u8]) -> Result<(), Refusal> {
-    match list_faults(list).first() {
-        Some(&refusal) => Err(refusal),
-        None => Ok(()),
-    }
-}
-
-/// The faults of a write list: (4) a length that is no multiple of 3 or over 684, then those of the
-/// records, one record after another.
-fn list_faults(list: &[u8]) -> Vec<Refusal> {
-    let mut faults = Vec::new();
     if !is_list_length(list.len()) {
         faults.push(Refusal::without_record(4));
-    }
-    let mut before = None;
-    for (index, record) in records(list).into_iter().enumerate() {
-        for number in record_faults(record, before) {
-            faults.push(Refusal {
-                number,
-                record: index,
-            });
-        }
-        before = Some(record.clock);
     }
     faults
 }

@@ -1,6 +1,5 @@
 //! The model: the chip of document 01 with the colour of document 02, request One, its stretched
-//! players, request Two, its mirrored bytes, request Three, and its tighter tape, request Four, to be
-//! read with the papers in this order.
+//! players, request Two, and its mirrored bytes, request Three, to be read with the papers in this order.
 //!
 //! - `refusal`: a refusal's number and record index (Refusal numbers, the closing sentence).
 //! - `counter`: The six-bit counter, with refusal 10 of its calls.
@@ -16,18 +15,13 @@
 //! - `colour`: request One, the colour of a column.
 //! - `latches`: the pairs of step 10 and the latch read-out.
 //! - `write_list`: A line and a tape, the write list's length and its records.
-//! - `line_faults`: refusals 1 to 7 and 11 of a line in the order of checks, and the check of a write
-//!   list, refusals 4 to 7.
+//! - `line_faults`: refusals 1 to 7 and 11 of a line in the order of checks.
 //! - `line`: a line's 228 clocks and its two buffers.
-//! - `waits`: request Four, the waits of version 2 and the clocks that they stand for.
-//! - `tape`: reading a tape of either version, with its refusals 8, 9, 4, 9, the stretch and the line's
-//!   write list.
+//! - `tape`: reading a tape, with its refusals 8, 9, 4, 9, and the stretch.
 //! - `first_lit`: the first lit column, with refusals 3 and 10.
 //! - `replay`: playing one line of a tape, and a whole tape from the start state.
 //! - `listing`: the listing program of Bench checks.
 //! - `input`: standard input, read up to one byte past the longest tape.
-//! - `moves`: request Four, moving a tape to the other version, with its refusals 13, 8, those of the
-//!   lines, 14, and the program that does so.
 //! - `line_bytes`: the object bytes and colour bytes of a tape's lines, raw; the papers have no such
 //!   program, it is there to compare with.
 //! - `clock_bytes`: what the state holds after each clock of one line of a tape, raw; the papers have
@@ -49,12 +43,10 @@ pub mod line_faults;
 pub mod listing;
 pub mod lit;
 pub mod mirror;
-pub mod moves;
 pub mod object;
 pub mod refusal;
 pub mod registers;
 pub mod replay;
 pub mod state;
 pub mod tape;
-pub mod waits;
 pub mod write_list;

@@ -4,7 +4,7 @@ use crate::model::line::line;
 use crate::model::line_faults::COLUMNS;
 use crate::model::refusal::Refusal;
 use crate::model::state::State;
-use crate::model::tape::{first_place, read, write_list, Reading};
+use crate::model::tape::{read, Reading, FIRST_PLACE};
 
 /// The answer of playing one line of a tape. The number is 0 where a line was played or the tape
 /// has ended; the place is the next one, or 0 where the tape has ended or the call is refused.
@@ -39,8 +39,8 @@ pub fn play_line(
             place: 0,
             state: *given,
         },
-        Ok(Reading::Line { end, .. }) => {
-            let answer = line(given, &write_list(tape, place), objects, colours);
+        Ok(Reading::Line { start, end }) => {
+            let answer = line(given, &tape[start..end], objects, colours);
             TapeAnswer {
                 number: answer.number,
                 record: answer.record,
@@ -70,7 +70,7 @@ pub struct Replay {
 pub fn replay(tape: &[u8]) -> Replay {
     let mut lines = Vec::new();
     let mut state = State::START;
-    let mut place = first_place(tape);
+    let mut place = FIRST_PLACE;
     loop {
         let mut bytes = LineBytes {
             objects: [0; COLUMNS],

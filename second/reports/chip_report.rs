@@ -1,14 +1,14 @@
 //! The chip report: a row for each record of a case file, with the answers, or the digest of the
 //! answers, that the chip gives for its case.
 
-use crate::cases::case::{Case, LineCase, MoveCase, RunCase, Single, TapeCase, Walk};
+use crate::cases::case::{Case, LineCase, RunCase, Single, TapeCase, Walk};
 use crate::cases::record::{cases_of, KINDS};
 use crate::cases::state_fields::to_bytes;
 use crate::model::first_lit::first_lit;
 use crate::model::input::bytes_of_input;
 use crate::model::latches::read_out;
 use crate::model::state::State;
-use crate::model::tape::{first_place, read, stretch, Reading};
+use crate::model::tape::{read, stretch, Reading};
 use crate::reports::digest::Digest;
 use crate::reports::failure::Failure;
 use crate::reports::texts::answer_text;
@@ -35,11 +35,6 @@ fn row(number: usize, case: &Case) -> String {
         Case::Line(line) => line_fields(number, line),
         Case::Run(run) => run_digest(number, run).to_string(),
         Case::Tape(tape) => tape_fields(number, tape),
-        Case::Move(moved) => move_fields(number, moved),
-        Case::Check(check) => {
-            let (number, record) = check.play();
-            format!("{number} {record}")
-        }
     };
     format!("{} {} {}", KINDS[case.kind()], number, fields)
 }
@@ -111,31 +106,22 @@ fn run_digest(number: usize, run: &RunCase) -> Digest {
     digest
 }
 
-/// A tape call: the tape's first place; what reading finds at the call's place, with start and end, both
-/// 0 where the tape has ended or reading is refused; the stretch; and the answer of playing the line
-/// there.
+/// A tape call: what reading finds at its place, with start and end, both 0 where the tape has
+/// ended or reading is refused; the stretch; and the answer of playing the line there.
 fn tape_fields(number: usize, case: &TapeCase) -> String {
     let (refused, start, end) = match read(&case.tape, case.place) {
         Ok(Reading::Line { start, end }) => (0, start, end),
         Ok(Reading::Ended) => (0, 0, 0),
         Err(refusal) => (refusal.number, 0, 0),
     };
-    let first = first_place(&case.tape);
     let stretch = Digest::of(stretch(&case.tape, case.place));
     let played = case.play(number);
     let answer = played.answer;
     let (number, record, place) = (answer.number, answer.record, answer.place);
     let state = state_digest(&answer.state);
     let [bytes, colours] = [&played.buffer, &played.colours].map(|bytes| Digest::of(bytes));
-    let reading = format!("{first} {refused} {start} {end} {stretch}");
+    let reading = format!("{refused} {start} {end} {stretch}");
     format!("{reading} {number} {record} {place} {state} {bytes} {colours}")
-}
-
-/// A move: its answer and the room as it returns.
-fn move_fields(number: usize, case: &MoveCase) -> String {
-    let (answer, room) = case.play(number);
-    let (number, record, length) = (answer.number, answer.record, answer.length);
-    format!("{number} {record} {length} {}", Digest::of(&room))
 }
 
 #[cfg(test)]
@@ -143,8 +129,7 @@ mod tests {
     use super::*;
     use crate::cases::bench::PRINTED_TAPE;
     use crate::cases::build_lists::records_of;
-    use crate::cases::case::{Call, CheckCase, WaitedWrite, WALK_WRITES};
-    use crate::model::tape::Version;
+    use crate::cases::case::{Call, WaitedWrite, WALK_WRITES};
     use crate::tests::playing::to;
 
     /// A single clock without a write on the start state with all latches set.
@@ -273,53 +258,15 @@ mod tests {
             (9, format!("0 11 11 00000000 0 0 11 {after} {dark} {dark}")),
             (21, format!("0 0 0 00000000 0 0 0 {given} {lent} {colours}")),
             (2, format!("4 0 0 00000000 4 0 0 {given} {lent} {colours}")),
-            (0, format!("9 0 0 00000000 9 0 0 {given} {lent} {colours}")),
         ] {
             let case = TapeCase::new(State::START, PRINTED_TAPE.to_vec(), place);
-            assert_eq!(row(0, &Case::Tape(case)), format!("tape 0 1 {expected}"));
+            assert_eq!(row(0, &Case::Tape(case)), format!("tape 0 {expected}"));
         }
         let mut case = TapeCase::new(State::START, PRINTED_TAPE.to_vec(), 9);
         case.colour_length = 1;
         let colours = Digest::of(&[100]);
-        let expected = format!("tape 0 1 0 11 11 00000000 11 0 0 {given} {lent} {colours}");
+        let expected = format!("tape 0 0 11 11 00000000 11 0 0 {given} {lent} {colours}");
         assert_eq!(row(0, &Case::Tape(case)), expected);
-        let tape = vec![2, 0, 0, 0, 4, 1, 228, 0x2A, 0];
-        let [lent, colours] = self::lent();
-        let stretch = Digest::of(&tape[6..]);
-        let expected = format!("tape 0 5 0 6 9 {stretch} 5 0 0 {given} {lent} {colours}");
-        let case = Case::Tape(TapeCase::new(State::START, tape, 5));
-        assert_eq!(row(0, &case), expected);
-    }
-
-    #[test]
-    fn a_move_is_its_answer_and_the_room_and_a_check_its_refusal() {
-        let row_of = |from, tape: &[u8], room| {
-            let tape = tape.to_vec();
-            row(254, &Case::Move(MoveCase { from, tape, room }))
-        };
-        let one = [1, 0, 3, 9, 0x2A, 7, 0, 0];
-        let two = [2, 0, 0, 0, 5, 1, 9, 0x2A, 7, 0];
-        let room = Digest::of(&[&two[..], &[8]].concat());
-        let expected = format!("move 254 0 0 10 {room}");
-        assert_eq!(row_of(Version::One, &one, 11), expected);
-        let room = Digest::of(&one);
-        assert_eq!(
-            row_of(Version::Two, &two, 8),
-            format!("move 254 0 0 8 {room}")
-        );
-        let room = Digest::of(&[254, 255, 0]);
-        for (from, tape, refusal) in [
-            (Version::One, &one[..], "14 0"),
-            (Version::Two, &one, "8 0"),
-            (Version::One, &[1, 0, 6, 9, 0x2A, 7, 10, 0, 0], "7 1"),
-        ] {
-            let expected = format!("move 254 {refusal} 0 {room}");
-            assert_eq!(row_of(from, tape, 3), expected);
-        }
-        for (list, refusal) in [(vec![9, 0x2A, 7], "0 0"), (vec![9, 4, 7, 9, 4, 7], "6 1")] {
-            let row = row(7, &Case::Check(CheckCase { list }));
-            assert_eq!(row, format!("check 7 {refusal}"));
-        }
     }
 
     #[test]

@@ -2,7 +2,6 @@
 //! each false claim and each number of 0.
 
 use crate::cases::case::RunCase;
-use crate::model::object::NAMES;
 use crate::reports::demand3::PlayedRun;
 use crate::reports::failure::Failure;
 use crate::reports::totals::{self, claims_text};
@@ -29,12 +28,12 @@ pub fn write(out: &mut dyn Write, runs: &[(usize, RunCase)]) -> Result<(), Failu
                     total[object] += u32::from(counted);
                 }
                 let run = format!("run {number}");
-                false_claims += &claims_text(&finding.false_claims, NAMES[object], &run);
+                false_claims += &claims_text(&finding.false_claims, object, &run);
             }
         }
     }
     let named = TOTALS.into_iter().zip(totals);
-    totals::write(out, "demand 3", &NAMES, named, &false_claims)
+    totals::write(out, "demand 3", named, &false_claims)
 }
 
 #[cfg(test)]

@@ -1,13 +1,11 @@
-//! Why a command ends without its output: a write error on it, a refusal, or something that is named.
+//! Why a command fails: a write error on its output, or something that is named.
 
 use std::io;
 
-/// The reason; the text tells the refusal, or names what is missing or false or cannot be written, a
-/// line each. A refusal is an answer: the status stays 0.
+/// The reason; the text names what is missing or false or cannot be written, a line each.
 #[derive(Debug, PartialEq, Eq)]
 pub enum Failure {
     WriteError,
-    Refused(String),
     Named(String),
 }
 

@@ -1,7 +1,5 @@
 //! The reports.
 
-pub mod both_forms;
-pub mod both_forms_report;
 pub mod chip_report;
 pub mod counter_report;
 pub mod demand3;

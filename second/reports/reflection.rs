@@ -15,7 +15,7 @@ use crate::model::mirror::mirrored;
 use crate::model::registers::{register_at, Register, Registers};
 use crate::model::replay::TapeAnswer;
 use crate::model::state::State;
-use crate::model::tape::{read, write_list, Reading};
+use crate::model::tape::{read, stretch, Reading};
 use crate::model::write_list::{writes_by_clock, CLOCKS};
 
 /// The state with a player's reflection the other way round and its graphics mirrored.
@@ -66,8 +66,7 @@ fn tape_counterpart(tape: &[u8], place: u64, player: usize) -> Vec<u8> {
     other
 }
 
-/// The counterpart of a case for a player; moves and checks, which have no state, have none of their
-/// own.
+/// The counterpart of a case for a player.
 fn counterpart(case: &Case, player: usize) -> Case {
     let state_of = |state| state_counterpart(state, player);
     let write_of = |write| write_counterpart(write, player);
@@ -97,7 +96,6 @@ fn counterpart(case: &Case, player: usize) -> Case {
             tape: tape_counterpart(&case.tape, case.place, player),
             ..*case
         }),
-        Case::Move(_) | Case::Check(_) => case.clone(),
     }
 }
 
@@ -167,8 +165,7 @@ impl Answered {
             buffer: played.buffer,
             colours: played.colours,
         };
-        let list = write_list(&case.tape, case.place);
-        let mut answered = Answered::of_call(&case.state, &list, line);
+        let mut answered = Answered::of_call(&case.state, stretch(&case.tape, case.place), line);
         answered.place = place;
         if place == 0 {
             answered.registers.clear();
@@ -195,8 +192,7 @@ fn registers_by_column(given: &Registers, list: &[u8]) -> Vec<Registers> {
     by_clock[CLOCKS - COLUMNS..].to_vec()
 }
 
-/// The answers of a case's clocks or calls, one after another; the number is that of its record. A move
-/// or a check makes none.
+/// The answers of a case's clocks or calls, one after another; the number is that of its record.
 fn answers(number: usize, case: &Case) -> Vec<Answered> {
     match case {
         Case::Clock(single) => vec![Answered::of_clock(single.play())],
@@ -216,7 +212,6 @@ fn answers(number: usize, case: &Case) -> Vec<Answered> {
             answers.collect()
         }
         Case::Tape(tape) => vec![Answered::of_tape(tape, tape.play(number))],
-        Case::Move(_) | Case::Check(_) => vec![],
     }
 }
 

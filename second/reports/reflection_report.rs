@@ -3,7 +3,7 @@
 
 use crate::cases::record::cases_of;
 use crate::model::input::bytes_of_input;
-use crate::model::object::{NAMES, P0, P1};
+use crate::model::object::{P0, P1};
 use crate::reports::failure::Failure;
 use crate::reports::reflection::PlayedCase;
 use crate::reports::totals::{self, claims_text};
@@ -33,11 +33,11 @@ pub fn write(input: &mut dyn Read, out: &mut dyn Write) -> Result<(), Failure> {
                 total[player] += counted as u32;
             }
             let record = format!("record {number}");
-            false_claims += &claims_text(&finding.false_claims, NAMES[player], &record);
+            false_claims += &claims_text(&finding.false_claims, player, &record);
         }
     }
     let named = TOTALS.into_iter().zip(totals);
-    totals::write(out, "reflection", &NAMES, named, &false_claims)
+    totals::write(out, "reflection", named, &false_claims)
 }
 
 #[cfg(test)]

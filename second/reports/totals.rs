@@ -1,14 +1,14 @@
-//! What the checks print: a heading and totals by object or version; and what they fail with.
+//! What the checks print: a heading and totals by object; and what they fail with.
 
+use crate::model::object::NAMES;
 use crate::reports::failure::Failure;
 use std::io::Write;
 
-/// Writes the heading and the totals, each with its name and the number of each that is named. Fails with
-/// the false claims, then the numbers that are 0, a line each.
+/// Writes the heading and the totals, each with its name and the number of each object. Fails with the
+/// false claims, then the numbers that are 0, a line each.
 pub fn write<'a, const N: usize>(
     out: &mut dyn Write,
     heading: &str,
-    names: &[&str],
     totals: impl Iterator<Item = (&'a str, [u32; N])>,
     false_claims: &str,
 ) -> Result<(), Failure> {
@@ -16,7 +16,7 @@ pub fn write<'a, const N: usize>(
     let mut faults = false_claims.to_string();
     for (name, numbers) in totals {
         text += name;
-        for (of, number) in names.iter().zip(numbers) {
+        for (of, number) in NAMES.iter().zip(numbers) {
             text += &format!(" {of} {number}");
             if number == 0 {
                 faults += &format!("missing: {name} of {of}\n");
@@ -32,8 +32,9 @@ pub fn write<'a, const N: usize>(
     }
 }
 
-/// A line for each false claim of an object or a version in what is named so.
-pub fn claims_text(false_claims: &[&str], of: &str, within: &str) -> String {
+/// A line for each false claim of an object in what is named so.
+pub fn claims_text(false_claims: &[&str], object: usize, within: &str) -> String {
+    let of = NAMES[object];
     let text = |claim: &&str| format!("false: {claim} of {of} in {within}\n");
     false_claims.iter().map(text).collect()
 }
@@ -53,7 +54,7 @@ mod tests {
         for (numbers, false_claims, faults) in cases {
             let mut out = Vec::new();
             let totals = [("lines", [1, 2]), ("runs", numbers)].into_iter();
-            let written = write(&mut out, "check", &["P0", "P1"], totals, false_claims);
+            let written = write(&mut out, "check", totals, false_claims);
             assert_eq!(
                 written.err(),
                 Some(Failure::Named(faults.into())).filter(|_| !faults.is_empty())
@@ -68,7 +69,7 @@ mod tests {
     fn false_claims_are_named_with_their_object_and_where() {
         let expected = "false: position of M1 in run 17\nfalse: picture of M1 in run 17\n";
         let claims = ["position", "picture"];
-        assert_eq!(claims_text(&claims, "M1", "run 17"), expected);
-        assert_eq!(claims_text(&[], "M1", "run 17"), "");
+        assert_eq!(claims_text(&claims, 3, "run 17"), expected);
+        assert_eq!(claims_text(&[], 3, "run 17"), "");
     }
 }

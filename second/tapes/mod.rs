@@ -6,4 +6,3 @@ pub mod refused_tapes;
 pub mod shown_tapes;
 pub mod stretched_tapes;
 pub mod test_tapes;
-pub mod tight_tapes;

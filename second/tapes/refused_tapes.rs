@@ -5,19 +5,20 @@ use crate::cases::build_tapes::{add_line, tape_of};
 use crate::cases::random::Random;
 use crate::cases::random_lists::{list_of_length, little_list, opening_list};
 use crate::cases::spoil::{least_index, spoil_record, spoil_two_records};
+use crate::model::tape::VERSION;
 use crate::tapes::test_tapes::Tapes;
 
 /// The number of lines beside the bad one.
-pub const OTHERS: usize = 6;
+const OTHERS: usize = 6;
 
 /// The lines that are bad: their names and their numbers among the others.
-pub const LINES: [(&str, usize); 3] = [("first", 0), ("middle", 3), ("last", OTHERS)];
+const LINES: [(&str, usize); 3] = [("first", 0), ("middle", 3), ("last", OTHERS)];
 
 /// The numbers of good lines before an end that makes a tape refused.
-pub const LINES_BEFORE: [usize; 3] = [0, 1, 12];
+const LINES_BEFORE: [usize; 3] = [0, 1, 12];
 
 /// The number of writes of a line with a bad record.
-pub const WRITES: u8 = 8;
+const WRITES: u8 = 8;
 
 /// The tapes, group by group.
 pub fn tapes(random: &Random) -> Tapes {
@@ -32,7 +33,7 @@ pub fn tapes(random: &Random) -> Tapes {
 }
 
 /// So many good lines: the first makes objects show, the others are little.
-pub fn good_lists(random: &Random, number: usize) -> Vec<Vec<u8>> {
+fn good_lists(random: &Random, number: usize) -> Vec<Vec<u8>> {
     let mut lists: Vec<Vec<u8>> = (0..number).map(|_| little_list(random)).collect();
     if let Some(first) = lists.first_mut() {
         *first = list_of(&opening_list(random));
@@ -142,12 +143,12 @@ fn cut_tapes(random: &Random, tapes: &mut Tapes) {
     }
 }
 
-/// Refusal 8: empty input, and versions neither 1 nor 2, with lines and without; and the version byte
-/// alone, which is good.
+/// Refusal 8: empty input, and versions that are not 1, with lines and without; and the version
+/// byte alone, which is good.
 fn versions(random: &Random, tapes: &mut Tapes) {
     tapes.push(("refused_8_empty_input".into(), vec![]));
-    tapes.push(("version_byte_alone".into(), vec![1]));
-    for version in [0, 3, 255] {
+    tapes.push(("version_byte_alone".into(), vec![VERSION]));
+    for version in [0, 2, 255] {
         let mut with_lines = tape_of(&good_lists(random, 3));
         with_lines[0] = version;
         for (how, tape) in [
@@ -158,4 +159,5 @@ fn versions(random: &Random, tapes: &mut Tapes) {
             tapes.push((format!("refused_8_version_{version}{how}"), tape));
         }
     }
+    tapes.push(("refused_8_version_2_four_zeros".into(), vec![2, 0, 0, 0, 0]));
 }

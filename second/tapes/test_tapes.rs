@@ -1,23 +1,19 @@
-//! The test tapes for the listing, the line bytes, the clock bytes and the moves, each a file of its own,
-//! and the writing of them.
+//! The test tapes for the listing, the line bytes and the clock bytes, each a file of its own, and the
+//! writing of them.
 
 use crate::cases::build_tapes::tape_of;
 use crate::cases::damage::DAMAGES;
 use crate::cases::random::Random;
 use crate::cases::random_lists::showing_lists;
 use crate::reports::failure::Failure;
-use crate::tapes::{
-    colour_tapes, long_tapes, refused_tapes, shown_tapes, stretched_tapes, tight_tapes,
-};
+use crate::tapes::{colour_tapes, long_tapes, refused_tapes, shown_tapes, stretched_tapes};
 use std::fs;
 use std::path::Path;
 
-/// The seeds of the tapes that are refused, of the long ones, of the random ones and of those of version
-/// 2.
+/// The seeds of the tapes that are refused, of the long ones and of the random ones.
 const REFUSED_SEED: u64 = 2604;
 const LONG_SEED: u64 = 2605;
 const RANDOM_SEED: u64 = 2606;
-const TIGHT_SEED: u64 = 2607;
 
 /// How many random tapes there are of each kind of damage, and as many good ones.
 const RANDOM_OF_EACH: usize = 12;
@@ -26,14 +22,13 @@ const RANDOM_OF_EACH: usize = 12;
 pub type Tapes = Vec<(String, Vec<u8>)>;
 
 /// Every test tape.
-pub fn all() -> Tapes {
+fn all() -> Tapes {
     let mut tapes = shown_tapes::tapes();
     tapes.extend(colour_tapes::tapes());
     tapes.extend(stretched_tapes::tapes());
     tapes.extend(refused_tapes::tapes(&Random::new(REFUSED_SEED)));
     tapes.extend(long_tapes::tapes(&Random::new(LONG_SEED)));
     tapes.extend(random_tapes(&Random::new(RANDOM_SEED)));
-    tapes.extend(tight_tapes::tapes(&Random::new(TIGHT_SEED), &tapes));
     tapes
 }
 
@@ -67,20 +62,18 @@ mod tests {
     use super::*;
     use crate::model::line_faults::{line_faults, Lengths};
     use crate::model::state::State;
-    use crate::model::tape::{first_place, read, write_list, Reading};
+    use crate::model::tape::{read, Reading, FIRST_PLACE};
     use std::collections::HashSet;
 
     /// The refusal that a part of a tape's name tells: number, line, record, or the number alone. The
     /// first part that a name has decides; tapes with none of them are good.
-    const REFUSALS: [(&str, &str); 27] = [
+    const REFUSALS: [(&str, &str); 22] = [
         ("refused_4_last_line", "4 6 0"),
         ("refused_4_also_cut_length_5_after_12", "4 12 0"),
         ("refused_5_last_line_record_7", "5 6 7"),
         ("refused_6_middle_line_record_1", "6 3 1"),
         ("refused_7_record_227", "7 2 227"),
         ("refused_9_684_cut_by_1_after_1_lines", "9 1 0"),
-        ("refused_5_tight_last_line_record_7", "5 6 7"),
-        ("refused_5_tight_228_writes_wait_1", "5 2 227"),
         ("refused_7_register_", "7 1 4"),
         ("refused_5_after_colours_in_its_line", "5 1 2"),
         ("refused_6_after_colours_in_its_line", "6 1 2"),
@@ -92,9 +85,6 @@ mod tests {
         ("refused_8", "8 0 0"),
         ("refused_9", "9 "),
         ("_bytes_bad_length", "4 "),
-        ("_bytes_bad_number", "4 "),
-        ("_bytes_summed_clock", "5 "),
-        ("_bytes_wrong_length", "9 0 0"),
         ("_bytes_unknown_register", "7 "),
         ("_bytes_version_0", "8 0 0"),
         ("_bytes_of_255", "8 0 0"),
@@ -109,10 +99,10 @@ mod tests {
             objects: 160,
             colours: 160,
         };
-        let mut place = first_place(tape);
+        let mut place = FIRST_PLACE;
         let mut line = 0;
-        while let Ok(Reading::Line { end, .. }) = read(tape, place) {
-            let faults = line_faults(&State::START, &write_list(tape, place), lengths);
+        while let Ok(Reading::Line { start, end }) = read(tape, place) {
+            let faults = line_faults(&State::START, &tape[start..end], lengths);
             if let Some(fault) = faults.first() {
                 return Some(format!("{} {} {}", fault.number, line, fault.record));
             }
@@ -127,7 +117,7 @@ mod tests {
     fn tapes_are_refused_as_their_names_say_and_damaged_ones_with_every_number() {
         let tapes = all();
         let names: HashSet<&String> = tapes.iter().map(|(name, _)| name).collect();
-        assert_eq!((tapes.len(), names.len()), (777, 777));
+        assert_eq!((tapes.len(), names.len()), (490, 490));
         let mut damaged = Vec::new();
         for (name, tape) in &tapes {
             let refusal = refusal(tape).unwrap_or_default();

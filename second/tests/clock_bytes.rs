@@ -3,7 +3,7 @@
 
 use crate::cases::bench::{checks, PRINTED_TAPE};
 use crate::cases::build_lists::list_of;
-use crate::cases::build_tapes::{tape_of, tight_form_of, tight_tape_of};
+use crate::cases::build_tapes::tape_of;
 use crate::model::clock::Done;
 use crate::model::clock_bytes;
 use crate::model::object::{BL, M0, P0, P1};
@@ -383,23 +383,6 @@ fn nothing_is_written_for_a_line_that_is_not_run() {
     for input in [&[][..], &[0], &[1], &[0, 0], &[1, 0]] {
         assert_eq!(written(input), []);
     }
-}
-
-// Four: "Both versions of one tape give the same lines and latches"; "5 where the summed clock passes
-// 227, given like 7 where a line is run".
-#[test]
-fn a_line_of_version_2_shows_the_same_clocks() {
-    for check in checks() {
-        let lists: Vec<Vec<u8>> = check.lines.iter().map(|line| list_of(line)).collect();
-        let (one, two) = (tape_of(&lists), tight_form_of(&lists));
-        for number in 0..=lists.len() as u16 {
-            assert_eq!(bytes_of_line(number, &one), bytes_of_line(number, &two));
-        }
-    }
-    let bad = tight_tape_of(&[vec![], vec![9, 4, 0, 218, 4, 0]]);
-    assert_eq!(bytes_of_line(0, &bad).len(), LINE);
-    assert_eq!(bytes_of_line(1, &bad), []);
-    assert_eq!(bytes_of_line(0, &[2, 0, 0, 0, 2, 0]), []);
 }
 
 // The line's number is two bytes, the higher first. "Each later one ... gets the state the call before

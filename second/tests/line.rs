@@ -2,8 +2,6 @@
 
 use crate::model::clock::clock;
 use crate::model::line::line;
-use crate::model::line_faults::check_list;
-use crate::model::refusal::Refusal;
 use crate::model::state::State;
 use crate::tests::playing::{at, play, to};
 
@@ -108,28 +106,11 @@ fn the_first_bad_record_decides_and_in_it_the_clock_before_the_register() {
     for (list, number, record) in cases {
         assert_refused(&at(0), list, [160; 2], number, record);
         assert_refused(&at(0), list, [160, 161], 11, 0);
-        assert_eq!(check_list(list), Err(Refusal { number, record }));
     }
     for (place, byte, number) in [(682, 0, 7), (681, 226, 6), (681, 228, 5)] {
         let mut list = full_list();
         list[place] = byte;
         assert_refused(&at(0), &list, [160; 2], number, 227);
-        let record = 227;
-        assert_eq!(check_list(&list), Err(Refusal { number, record }));
-    }
-}
-
-// Settled: "the check of a write list (number and record index)": 4, then 5 to 7 record by record.
-#[test]
-fn a_list_is_checked_alone_by_its_length_and_its_records() {
-    assert_eq!(check_list(&[]), Ok(()));
-    assert_eq!(check_list(&full_list()), Ok(()));
-    assert_eq!(check_list(&[0, 0x2A, 0, 227, 0x10, 0]), Ok(()));
-    for length in (0..=2100).filter(|length| length % 3 != 0 || *length > 684) {
-        let refused = Err(Refusal::without_record(4));
-        for byte in [0, 4, 255] {
-            assert_eq!(check_list(&vec![byte; length]), refused);
-        }
     }
 }
 

@@ -51,7 +51,7 @@ fn bench_the_printed_tape_and_refusals_before_and_after_its_lines() {
     assert_eq!(line_bytes_of(&PRINTED_TAPE), printed_bytes());
     let at_once: [(&[u8], &str); 3] = [
         (&[], "refused 8 line 0 record 0\n"),
-        (&[3, 0, 0], "refused 8 line 0 record 0\n"),
+        (&[2, 0, 0], "refused 8 line 0 record 0\n"),
         (&[1, 0], "refused 9 line 0 record 0\n"),
     ];
     for (tape, refused) in at_once {
@@ -69,41 +69,6 @@ fn bench_the_printed_tape_and_refusals_before_and_after_its_lines() {
     ];
     for (bad, refused) in after {
         let tape = [&PRINTED_TAPE[..], bad].concat();
-        assert_listed(&tape, &[PRINTED_ROWS, refused]);
-        assert_eq!(line_bytes_of(&tape), printed_bytes());
-    }
-}
-
-/// The printed tape in version 2, by the rule of request Four: its length is 16.
-const PRINTED_TIGHT: [u8; 21] = [
-    0x02, 0x00, 0x00, 0x00, 0x10, 0x02, 0x00, 0x1D, 0x02, 0x1D, 0x12, 0x00, 0x00, 0x02, 0x00, 0x22,
-    0x70, 0x08, 0x2A, 0x00, 0x00,
-];
-
-// Four: "Both versions of one tape give the same lines and latches." "5 where the summed clock passes
-// 227, given like 7 where a line is run or moved, not at reading." Settled: version 2's length fault
-// comes at line 0; rows already run stay.
-#[test]
-fn version_2_is_listed_as_version_1() {
-    assert_listed(&PRINTED_TIGHT, &[PRINTED_ROWS, NO_LATCHES]);
-    assert_eq!(line_bytes_of(&PRINTED_TIGHT), printed_bytes());
-    assert_listed(&[2, 0, 0, 0, 0], &[NO_LATCHES]);
-    let at_once: [&[u8]; 4] = [&[2], &[2, 0, 0, 0], &[2, 0, 0, 0, 1], &PRINTED_TIGHT[..20]];
-    for tape in at_once {
-        assert_listed(tape, &["refused 9 line 0 record 0\n"]);
-        assert_eq!(line_bytes_of(tape), []);
-    }
-    let after: [(&[u8], &str); 6] = [
-        (&[229], "refused 4 line 4 record 0\n"),
-        (&[1, 9, 0x2A], "refused 9 line 4 record 0\n"),
-        (&[1, 228, 4, 0], "refused 5 line 4 record 0\n"),
-        (&[2, 5, 4, 0, 222, 4, 0], "refused 5 line 4 record 1\n"),
-        (&[2, 5, 4, 0, 255, 0, 0], "refused 5 line 4 record 1\n"),
-        (&[2, 0, 14, 9, 0, 0, 0], "refused 7 line 4 record 1\n"),
-    ];
-    for (bad, refused) in after {
-        let mut tape = [&PRINTED_TIGHT[..], bad].concat();
-        tape[4] += bad.len() as u8;
         assert_listed(&tape, &[PRINTED_ROWS, refused]);
         assert_eq!(line_bytes_of(&tape), printed_bytes());
     }

@@ -14,7 +14,6 @@ mod line;
 mod listing;
 mod lit;
 mod mirror;
-mod moves;
 mod read_outs;
 mod registers;
 mod replay;

@@ -35,7 +35,7 @@ fn next(byte: u8) -> u8 {
 }
 
 // Fills a buffer with bytes that rise from the first one.
-pub(crate) fn fill(buffer: &mut [u8], first: u8) {
+fn fill(buffer: &mut [u8], first: u8) {
     let mut byte = first;
     let mut i = 0;
     while i < buffer.len() {

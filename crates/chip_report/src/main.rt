@@ -1,10 +1,8 @@
 // Prints the chip's answers to the cases on standard input: single clocks, walks of clocks, line calls, runs of line
-// calls, lines of tapes, moves of tapes, and checks of write lists.
+// calls, and lines of tapes.
 mod call;
-mod check;
 mod digest;
 mod line;
-mod move_call;
 mod output;
 mod run;
 mod single;
@@ -17,13 +15,8 @@ use libc::STDIN_FILENO;
 // The most cases that are answered.
 const MOST: u32 = 1000000;
 
-// The row of a case with a state, by its kind: its number among all cases, then its answer. Whether there is such a kind.
-fn row_with_state(kind: u8, number: u32) -> bool {
-    let mut bytes = [0u8; 73];
-    if io::read_full(STDIN_FILENO, &mut bytes) < 73 {
-        return false;
-    }
-    let record = &bytes;
+// The row of a case by its kind: its number among all cases, then its answer. Whether there is such a kind.
+fn row(kind: u8, number: u32, record: &[u8; 73]) -> bool {
     match kind {
         0 => single::row(number, record),
         1 => walk::row(number, record),
@@ -38,15 +31,14 @@ fn row_with_state(kind: u8, number: u32) -> bool {
 // The row of the next case. Whether there was one: not at the end of standard input, nor at an unknown kind.
 fn next(number: u32) -> bool {
     let mut kind = [0u8; 1];
+    let mut record = [0u8; 73];
     if io::read_full(STDIN_FILENO, &mut kind) < 1 {
         return false;
     }
-    match kind[0] {
-        5 => move_call::row(number),
-        6 => check::row(number),
-        other => return row_with_state(other, number),
+    if io::read_full(STDIN_FILENO, &mut record) < 73 {
+        return false;
     }
-    true
+    row(kind[0], number, &record)
 }
 
 // A row for each case.

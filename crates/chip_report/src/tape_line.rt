@@ -48,9 +48,8 @@ fn played(verdict: Verdict) {
     }
 }
 
-// The first place of a tape, and reading and the stretch at a place.
+// Reading and the stretch at a place of a tape.
 fn show_reading(tape: &[u8], at: usize) {
-    place(tape::first_place(tape));
     read(tape::read_at(tape, at));
     hex(with_bytes(0, tape::stretch_at(tape, at)));
     text(b" ");

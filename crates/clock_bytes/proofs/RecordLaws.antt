@@ -6,7 +6,6 @@ use Prim.Native.Nat.{ℕ, zero, suc, ◌+◌, ◌<◌}
 use native.Mathlib.Omega.{arith}
 use lib.Dec.{eqb}
 use lib.ListN.{length, get_or}
-use Rattle.tape.specs.Reading.{first_place}
 use Rattle.tia.specs.declared.answers.ClockAnswer.{ClockAnswer}
 use Rattle.tia.specs.declared.state.State.{State}
 use Rattle.tia.specs.declared.write.Write.TheVariants.{Register}
@@ -81,10 +80,10 @@ pub tape_record_byte :
 unfolding tape_records replay_of
 tape_record_byte tape all passed later l split x below =
     let s = state_after_lines start_state passed in
-    let chain = chain_second start_state passed (l ∷ later) (rw split at (replay_chained tape all (suc (length tape)) start_state (first_place tape))) in
+    let chain = chain_second start_state passed (l ∷ later) (rw split at (replay_chained tape all (suc (length tape)) start_state 1)) in
     let here = chain.0 in
     rw (
       ← records_after (replay_of tape).lines passed later l (length passed) s split refl refl,
-      record_byte s l.list (slice_bytes l.list here.slice) here.number x below,
+      record_byte s l.writes (slice_bytes l.writes here.slice) here.number x below,
       here.filled,
     )

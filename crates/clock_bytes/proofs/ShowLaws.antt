@@ -17,11 +17,11 @@ use Rattle.tia.specs.WriteList.{TimedWrite, records_of, write_at}
 use Rattle.tia.specs.Answers.{clock_answer}
 use Rattle.tia.proofs.CursorLaws.{records_at}
 use Rattle.tia.proofs.RisingLaws.{writes_here, writes_later}
-use Rattle.tape.specs.Reading.{longest, first_place, list_at, stopped}
+use Rattle.tape.specs.Reading.{longest, stretch_at}
 use Rattle.replay.specs.declared.play.Verdict.TheVariants.{Played}
 use Rattle.replay.specs.declared.play.PlayAnswer.{PlayAnswer}
 use Rattle.replay.specs.Play.{play_answer, PlayPromise}
-use Rattle.replay.proofs.PlayLaws.{play_answered, played_list}
+use Rattle.replay.proofs.PlayLaws.{play_answered}
 use Rattle.replay.specs.Replay.{PlayedLine, state_after_lines, line_from, replay_of}
 use Rattle.replay.proofs.ReplayLaws.{enough}
 use Rattle.replay.proofs.FollowLaws.{Followed, followed_none, followed_here, followed_more}
@@ -141,14 +141,14 @@ drop_passed (l ∷ ls) later = drop_passed ls later
 pub records_after :
     (lines passed later : List PlayedLine) (l : PlayedLine) (count : ℕ) (s : State) → lines ≡ passed ++ (l ∷ later) →
     length passed ≡ count → state_after_lines start_state passed ≡ s →
-    line_records s l.list ≡ first_records (state_after_lines start_state (take count lines)) (drop count lines)
+    line_records s l.writes ≡ first_records (state_after_lines start_state (take count lines)) (drop count lines)
 records_after lines passed later l count s e counted reached =
     rw (e, ← counted, take_passed passed (l ∷ later), drop_passed passed (l ∷ later), reached)
 
 records_here :
     (tape : List ℕ) (passed : List PlayedLine) (count : ℕ) (s : State) (place next : ℕ) → count < enough →
     Followed tape passed count s place → (play_answer s tape place line_rooms).verdict ≡ Played next →
-    line_records s (list_at tape place) ≡ tape_records tape count
+    line_records s (stretch_at tape place) ≡ tape_records tape count
 unfolding tape_records
 records_here tape passed count s place next more now said =
     records_after
@@ -167,7 +167,7 @@ pub record Passed (tape : List ℕ) (count : ℕ) (s : State) (place : ℕ) : Ty
   pub passed : List PlayedLine
   pub follows : Followed tape passed count s place
 
-pub passed_none : (tape : List ℕ) → length tape ≤ longest → Passed tape 0 start_state (first_place tape)
+pub passed_none : (tape : List ℕ) → length tape ≤ longest → Passed tape 0 start_state 1
 passed_none tape short = record { passed = []; follows = followed_none tape short }
 
 -- A line that is played: its records are those of the tape's line with this number; after it one more is passed.
@@ -181,9 +181,8 @@ module _
   said : (play_answer s tape place line_rooms).verdict ≡ Played next
   said = rw answered at played
 
-  pub records_played : (ws : List ℕ) → ws ≡ stopped (list_at tape place) → line_records s ws ≡ tape_records tape count
-  records_played ws e =
-      rw (e, played_list s tape place line_rooms next said) (records_here tape now.passed count s place next more now.follows said)
+  pub records_played : line_records s (stretch_at tape place) ≡ tape_records tape count
+  records_played = records_here tape now.passed count s place next more now.follows said
 
   pub passed_more : Passed tape (count + 1) answer.state next
   passed_more =

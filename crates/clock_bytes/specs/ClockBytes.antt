@@ -68,7 +68,7 @@ line_records s ws = records_from (write_at (records_of ws)) 0 line_clocks s
 -- Those of the first of some lines, which are run from a state; none where there is no line.
 abbrev pub first_records : State → List PlayedLine → List (List ℕ)
 first_records s [] = []
-first_records s (l ∷ ls) = line_records s l.list
+first_records s (l ∷ ls) = line_records s l.writes
 
 -- A tape's line with a number, counted from 0; no records where it is not run.
 unfoldable pub tape_records : (tape : List ℕ) (number : ℕ) → List (List ℕ)

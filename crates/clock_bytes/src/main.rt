@@ -71,7 +71,7 @@ fn show_clocks(number: u32, tape: &[u8], input: &[u8])
     let mut bytes = [0u8; 160];
     let mut colours = [0u8; 160];
     let mut state = State::start();
-    let mut place = tape::first_place(tape);
+    let mut place = tape::FIRST_PLACE;
     for step in 0..STEPS {
         let played = replay::play_line(state, tape, place, &mut bytes, &mut colours);
         let verdict = played.verdict;
@@ -79,10 +79,7 @@ fn show_clocks(number: u32, tape: &[u8], input: &[u8])
             return;
         };
         if step == number {
-            let list = tape::list_at(tape, place);
-            let bytes = list.bytes;
-            let length = list.length;
-            show_line(state, &bytes[0..length], input);
+            show_line(state, tape::stretch_at(tape, place), input);
             return;
         }
         state = played.state;

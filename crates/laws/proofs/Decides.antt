@@ -39,11 +39,6 @@ pub both : {P Q : Type 0} (a b : Bool) → Decides a P → Decides b Q → Decid
 both true b p q = record { holds = λ e. (p.holds refl, q.holds e); fails = λ e h. q.fails e h.1 }
 both false b p q = record { holds = λ e. absurd (true≢false (sym e)); fails = λ e h. p.fails refl h.0 }
 
-pub neither : {P Q : Type 0} (a b : Bool) → Decides a P → Decides b Q → Decides (not (a || b)) ((P → ⊥) × (Q → ⊥))
-neither true b p q = record { holds = λ e. absurd (true≢false (sym e)); fails = λ e h. h.0 (p.holds refl) }
-neither false true p q = record { holds = λ e. absurd (true≢false (sym e)); fails = λ e h. h.1 (q.holds refl) }
-neither false false p q = record { holds = λ e. (p.fails refl, q.fails refl); fails = λ e. absurd (true≢false e) }
-
 -- Row 4's test decides row 4.
 pub length_decided : (n : ℕ) → Decides (bad_length n) (BadLength n)
 length_decided n = either (not (eqb (n % 3) 0)) (ltb 684 n) (differs (n % 3) 0) (less 684 n)

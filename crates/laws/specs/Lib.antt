@@ -2,6 +2,5 @@
 pub mod Bits
 pub mod Numbers
 pub mod Refusal
-pub mod Room
 pub mod Steps
 pub mod Tables

@@ -13,7 +13,7 @@ for_line_clock = 2
 abbrev pub for_buffer_length : ℕ
 for_buffer_length = 3
 
--- 4: write list not a multiple of 3, or over 684 bytes; in a tape of version 2 over 228 writes (document 02, Four).
+-- 4: write list not a multiple of 3, or over 684 bytes.
 abbrev pub for_list_length : ℕ
 for_list_length = 4
 
@@ -23,7 +23,7 @@ bad_length n = not (eqb (n % 3) 0) || ltb 684 n
 abbrev pub BadLength : ℕ → Type 0
 BadLength n = (n % 3 ≡ 0 → ⊥) ⊎ (684 < n)
 
--- 5: a clock over 227; in a tape of version 2 the summed clock (document 02, Four).
+-- 5: a clock over 227.
 abbrev pub for_clock_over : ℕ
 for_clock_over = 5
 
@@ -35,12 +35,11 @@ for_clock_order = 6
 abbrev pub for_unknown_register : ℕ
 for_unknown_register = 7
 
--- 8: tape empty or version not 1 or 2; for a move, not the version that it moves from (document 02, Four).
+-- 8: tape empty or version not 1.
 abbrev pub for_version : ℕ
 for_version = 8
 
--- 9: tape cut short, or the place is 0 or past its end; in version 2 also a length that disagrees with what follows or is cut short,
--- or a place under 5 (document 02, Four).
+-- 9: tape cut short, or the place is 0 or past its end.
 abbrev pub for_tape_end : ℕ
 for_tape_end = 9
 
@@ -51,11 +50,3 @@ for_no_such = 10
 -- 11: colour buffer not 160 bytes; checked after 3 (document 02, One).
 abbrev pub for_colour_length : ℕ
 for_colour_length = 11
-
--- 13: for moving only: tape over 65,536 bytes; checked before 8 (document 02, Four).
-abbrev pub for_tape_length : ℕ
-for_tape_length = 13
-
--- 14: for moving only: output room too small; checked last (document 02, Four).
-abbrev pub for_room : ℕ
-for_room = 14

@@ -3,7 +3,7 @@ use mathlib.Core.Path.{◌≡◌, ◌∙◌, refl, sym}
 use mathlib.Core.List.{List, [], ◌∷◌, ◌++◌}
 use Prim.Native.Nat.{ℕ, ◌+◌, ◌≤◌, ◌<◌}
 use lib.ListN.{length}
-use Rattle.tape.specs.Reading.{longest, first_place}
+use Rattle.tape.specs.Reading.{longest}
 use Rattle.tia.specs.declared.state.State.{State}
 use Rattle.tia.specs.State.{start_state}
 use Rattle.tia.specs.Line.{Buffers, line_rooms}
@@ -28,7 +28,7 @@ pub record Shown (tape : List ℕ) (count : ℕ) (s : State) (place : ℕ) (held
   pub last : held ≡ last_filled start shown
 
 -- Before the first.
-pub shown_none : (tape : List ℕ) (held : Buffers) → length tape ≤ longest → Shown tape 0 start_state (first_place tape) held
+pub shown_none : (tape : List ℕ) (held : Buffers) → length tape ≤ longest → Shown tape 0 start_state 1 held
 shown_none tape held short = record { start = held; shown = []; follows = followed_none tape short; last = refl }
 
 -- The last of some lines and one more is that one.

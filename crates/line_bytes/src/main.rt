@@ -30,7 +30,7 @@ fn show_lines(tape: &[u8])
     let mut bytes = [0u8; 160];
     let mut colours = [0u8; 160];
     let mut state = State::start();
-    let mut place = tape::first_place(tape);
+    let mut place = tape::FIRST_PLACE;
     for step in 0..STEPS {
         let played = replay::play_line(state, tape, place, &mut bytes, &mut colours);
         let verdict = played.verdict;

@@ -4,5 +4,4 @@ pub mod LineTextLaws
 pub mod ListingLaws
 pub mod PrintedProof
 pub mod PutLaws
-pub mod SameLaws
 pub mod StepLaws

@@ -5,7 +5,7 @@ use Prim.Native.Nat.{ℕ}
 use Rattle.tia.specs.declared.first_lit.FirstLit.{FirstLit}
 use Rattle.tia.specs.FirstLit.{first_lit_of, column_answer, first_lit_answer}
 use Rattle.tia.proofs.FirstLitLaws.{same_column}
-use Rattle.laws.specs.Room.{Put}
+use Rattle.listing_text.specs.Room.{Put}
 use Rattle.listing_text.specs.LineText.{column_text}
 
 -- The text of a column that was found, by what it is.

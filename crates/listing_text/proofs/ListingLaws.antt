@@ -8,7 +8,7 @@ use native.Mathlib.Omega.{arith}
 use borrow.Author.Tests.{ltb-false}
 use lib.Dec.{ltb}
 use lib.ListN.{length}
-use Rattle.tape.specs.Reading.{longest, first_place}
+use Rattle.tape.specs.Reading.{longest}
 use Rattle.tia.specs.declared.state.State.{State}
 use Rattle.tia.specs.Line.{line_rooms}
 use Rattle.tia.specs.State.{start_state}
@@ -77,12 +77,12 @@ steps_are_listing tape = by_length (ltb longest (length tape)) refl
 
     by_length :
         (long : Bool) → ltb longest (length tape) ≡ long →
-        cond long too_long heading ++ steps_text enough 0 start_state tape (cond long Done (Line (first_place tape)))
+        cond long too_long heading ++ steps_text enough 0 start_state tape (cond long Done (Line 1))
         ≡ cond long too_long (heading ++ (rows_text 0 lines ++ last))
     by_length true e = rw (done enough 0 start_state tape) (append-nil too_long)
     by_length false e =
         let same = replay_enough tape (ltb-false longest (length tape) e) in
         ap (λ (rest : List ℕ). heading ++ rest)
-        (steps_are_rows tape enough start_state (first_place tape) 0
+        (steps_are_rows tape enough start_state 1 0
         ∙ ap (replay_text 0 start_state) same
         ∙ ap (λ (n : ℕ). rows_text 0 lines ++ last_text n (state_after_lines start_state lines) (replay_of tape).verdict) (zero-add (length lines)))

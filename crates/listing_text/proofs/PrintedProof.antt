@@ -1,20 +1,18 @@
 -- Document 01's printed case and the other cases, proved by running the definitions.
 use mathlib.Core.Path.{◌≡◌, refl}
 use mathlib.Core.List.{map}
-use Rattle.tape.specs.Form.{is_second, clocked}
-use Rattle.tape.specs.PrintedTape.{printed_tape, printed_tape2}
-use Rattle.tape.specs.Reading.{bad_version, line_at, place_at, read_at, stretch_at, list_at}
+use Rattle.tape.specs.Reading.{bad_version, line_at, place_at, read_at, stretch_at}
 use Rattle.tia.proofs.Computing.{chip}
 use Rattle.replay.specs.Play.{play_answer}
 use Rattle.replay.specs.Replay.{replay_from, replay_of}
 use Rattle.listing_text.specs.Text.{digits_of, spaced}
 use Rattle.listing_text.specs.LineText.{row_text, latches_text, refused_text}
 use Rattle.listing_text.specs.Listing.{rows_text, listing_of}
-use Rattle.listing_text.specs.PrintedCase.{printed_listing, ListingCase, listing_cases}
+use Rattle.listing_text.specs.PrintedCase.{printed_tape, printed_listing, ListingCase, listing_cases}
 
 -- Definitions that open together: those of the replay, and with them those of the listing.
 unfoldable pub replay : Unit {0}
-unfolding chip is_second clocked bad_version line_at place_at read_at stretch_at list_at play_answer replay_from replay_of
+unfolding chip bad_version line_at place_at read_at stretch_at play_answer replay_from replay_of
 replay = tt
 
 unfoldable pub listing : Unit {0}
@@ -25,11 +23,6 @@ listing = tt
 pub printed_case : listing_of printed_tape ≡ printed_listing
 unfolding listing
 printed_case = refl
-
--- The same tape in version 2 has the same listing.
-pub printed_case_2 : listing_of printed_tape2 ≡ printed_listing
-unfolding listing
-printed_case_2 = refl
 
 -- Each case's tape has its listing.
 pub listings_hold : map (λ (c : ListingCase). listing_of c.tape) listing_cases ≡ map (λ (c : ListingCase). c.listing) listing_cases

@@ -1,21 +1,59 @@
 -- Text put after text, and the digits of numbers.
-use mathlib.Core.Path.{◌≡◌, ◌∙◌, refl, ap}
+use mathlib.Core.Path.{◌≡◌, ◌∙◌, refl, sym, ap}
 use mathlib.Core.List.{List, [], ◌∷◌, ◌++◌}
 use Prim.Native.Nat.{ℕ, zero, suc, ◌+◌, ◌-◌, ◌/◌, ◌%◌, ◌≤◌, ◌<◌}
+use native.Mathlib.Nat.{add-zero, add-suc, suc-add}
 use native.Mathlib.Numerals.{add-one, sub-one}
 use native.Mathlib.Omega.{arith}
 use borrow.Author.Tests.{lt-ltb, le-ltb}
-use lib.ListN.{length, take, drop, replicate}
-use lib.Seq.{sets, sets-eq, take-append_seam}
-use Rattle.laws.specs.Room.{Put}
-use Rattle.laws.proofs.Puts.{put_none, put_then}
+use lib.ListN.{length, get_or, take, drop, replicate, length-append}
+use lib.Seq.{sets, sets-eq, take-suc, take_all, take-append_seam, length-take-le}
+use Rattle.listing_text.specs.Room.{Put}
 use Rattle.listing_text.specs.Text.{ascii, digits_of, spaced}
+
+-- Two runs of stores are one.
+sets_append : (xs ys room : List ℕ) (at : ℕ) → sets (sets room at xs) (at + length xs) ys ≡ sets room at (xs ++ ys)
+sets_append [] ys room at = rw add-zero
+sets_append (x ∷ xs) ys room at =
+    ap (λ (n : ℕ). sets (sets room at (x ∷ xs)) n ys) (add-suc at (length xs) ∙ sym (suc-add at (length xs)))
+    ∙ sets_append xs ys _ (suc at)
 
 -- Text stored at the start of a room that it fits is the room's first bytes.
 pub take_sets : (text : List ℕ) → length text ≤ 64 → take (length text) (sets (replicate 64 0) 0 text) ≡ text
 take_sets text fits =
     ap (take (length text)) (sets-eq text (replicate 64 0) 0 (omega arith))
     ∙ take-append_seam text (drop (0 + length text) (replicate 64 0))
+
+-- No text, and text after text.
+pub put_none : (room : List ℕ) (at : ℕ) → Put [] at room at room
+put_none room at = record { next_is = omega arith; after_is = refl }
+
+pub put_then :
+    (xs ys : List ℕ) {at mid next : ℕ} {room between after : List ℕ} → Put xs at room mid between → Put ys mid between next after →
+    Put (xs ++ ys) at room next after
+put_then xs ys {at} {mid} {next} {room} {between} {after} p q =
+    record {
+      next_is = omega (arith, length-append xs ys);
+      after_is = q.after_is ∙ rw (p.next_is, p.after_is) (sets_append xs ys room at);
+    }
+
+-- One more byte of some bytes.
+pub put_more :
+    (bytes : List ℕ) (i : ℕ) {at mid next : ℕ} {room between after : List ℕ} → i < length bytes →
+    Put (take i bytes) at room mid between → Put (get_or bytes i 0 ∷ []) mid between next after →
+    Put (take (i + 1) bytes) at room next after
+put_more bytes i within p q = rw (add-one i, take-suc bytes i 0 within) (put_then (take i bytes) (get_or bytes i 0 ∷ []) p q)
+
+-- All of them, and the room for one more.
+pub put_all :
+    (bytes : List ℕ) (i : ℕ) {at next : ℕ} {room after : List ℕ} → Put (take i bytes) at room next after → length bytes ≤ i →
+    Put bytes at room next after
+put_all bytes i p all = rw (take_all i bytes all) at p
+
+pub put_below :
+    (bytes : List ℕ) (i : ℕ) {at next : ℕ} {room after : List ℕ} → Put (take i bytes) at room next after → i < length bytes →
+    at + length bytes ≤ 64 → next < 64
+put_below bytes i p more fits = omega (arith, length-take-le i bytes (omega arith))
 
 -- The digits by the tests of the code.
 pub no_digits : (most n : ℕ) → most ≡ 0 → digits_of most n ≡ []

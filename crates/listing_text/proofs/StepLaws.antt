@@ -7,9 +7,9 @@ use native.Mathlib.Omega.{arith}
 use borrow.Author.Tests.{lt-ltb, le-ltb}
 use lib.Dec.{eqb}
 use lib.ListN.{length, replicate}
-use lib.Seq.{length-sets}
+use lib.Seq.{sets, length-sets}
 use Rattle.laws.proofs.OneToOne.{one_to_one}
-use Rattle.tape.specs.Reading.{longest, first_place}
+use Rattle.tape.specs.Reading.{longest}
 use Rattle.tia.specs.declared.state.State.{State}
 use Rattle.tia.specs.State.{start_state}
 use Rattle.tia.specs.Line.{Buffers, buffers, line_rooms}
@@ -22,7 +22,7 @@ use Rattle.replay.proofs.PlayLaws.{play_answered, played_pictures}
 use Rattle.listing_text.specs.declared.listing.Next.{Next}
 use Rattle.listing_text.specs.declared.listing.Next.TheVariants.{Line, Done}
 use Rattle.listing_text.specs.declared.listing.Printed.{Printed}
-use Rattle.laws.specs.Room.{Put}
+use Rattle.listing_text.specs.Room.{Put}
 use Rattle.listing_text.specs.LineText.{heading, too_long, row_text, latches_text, refused_text}
 use Rattle.listing_text.specs.Listing.{printed, Prints, printed_bytes, opening_text, opening_next, line_text, line_next, StepPrints}
 use Rattle.listing_text.specs.Listing.{NextNumbers, next_numbers, StepNumbers, step_numbers}
@@ -77,9 +77,9 @@ module _ (tape : List ℕ) (s : State) (start : s ≡ start_state) {count : ℕ}
   opens_long long p = rw (start, lt-ltb longest (length tape) long) (prints Done start_state p)
 
   pub opens :
-      (first : ℕ) → first ≡ first_place tape → length tape ≤ longest → Text heading count room →
-      Prints (opening_text tape) (opening_next tape) start_state (record { next = Line first; state = s; room = room; length = count })
-  opens first e short p = rw (start, le-ltb longest (length tape) short, ← e) (prints (Line first) start_state p)
+      length tape ≤ longest → Text heading count room →
+      Prints (opening_text tape) (opening_next tape) start_state (record { next = Line 1; state = s; room = room; length = count })
+  opens short p = rw (start, le-ltb longest (length tape) short) (prints (Line 1) start_state p)
 
 -- A later step, by the verdict on its line.
 abbrev empty : Buffers

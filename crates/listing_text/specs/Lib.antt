@@ -1,4 +1,5 @@
 -- The listing of a tape: its text, line by line, and whole.
+pub mod Room
 pub mod Text
 pub mod LineText
 pub mod Listing

@@ -1,7 +1,7 @@
 -- The listing of a tape: the line printed at each step, and the whole.
 use Rattle.std.specs.Prelude.{ℕ, zero, suc, ◌≤◌, ◌≡◌, cond, List, [], ◌∷◌, ◌++◌, ltb, length, replicate, take}
 use Rattle.std.proofs.lemmas.List.Edits.{sets}
-use Rattle.tape.specs.Reading.{longest, first_place}
+use Rattle.tape.specs.Reading.{longest, version1}
 use Rattle.tia.specs.declared.state.State.{State}
 use Rattle.tia.specs.State.{start_state}
 use Rattle.tia.specs.Line.{line_rooms}
@@ -73,7 +73,7 @@ abbrev pub opening_text : (tape : List ℕ) → List ℕ
 opening_text tape = cond (ltb longest (length tape)) too_long heading
 
 abbrev pub opening_next : (tape : List ℕ) → Next
-opening_next tape = cond (ltb longest (length tape)) Done (Line (first_place tape))
+opening_next tape = cond (ltb longest (length tape)) Done (Line version1.first)
 
 -- Every later step: the line at a place, played from a state, and its row; or the last line, and nothing more.
 abbrev pub line_next : Verdict → Next

@@ -1,8 +1,17 @@
--- Listings: that of document 01's printed tape, and small tapes with theirs, which end at once or in a refusal.
+-- Tapes and their listings: document 01's printed case, and small ones that end at once or in a refusal.
 use Rattle.std.specs.Prelude.{ℕ, List, [], ◌∷◌}
 use Rattle.listing_text.specs.Text.{ascii}
 
--- The listing of the printed tape, in either version.
+-- 01 0006 001D02 1E1200 0000 0006 002270 092A00 0000
+abbrev pub printed_tape : List ℕ
+printed_tape =
+    0x01
+    ∷ 0x00 ∷ 0x06 ∷ 0x00 ∷ 0x1D ∷ 0x02 ∷ 0x1E ∷ 0x12 ∷ 0x00
+    ∷ 0x00 ∷ 0x00
+    ∷ 0x00 ∷ 0x06 ∷ 0x00 ∷ 0x22 ∷ 0x70 ∷ 0x09 ∷ 0x2A ∷ 0x00
+    ∷ 0x00 ∷ 0x00
+    ∷ []
+
 abbrev pub printed_listing : List ℕ
 printed_listing =
     ascii
@@ -17,10 +26,8 @@ abbrev pub listing_cases : List ListingCase
 listing_cases =
     -- empty input
     record { tape = []; listing = ascii "line P0 P1 M0 M1 BL PF\nrefused 8 line 0 record 0\n" }
-    -- version 3
-    ∷ record { tape = 0x03 ∷ []; listing = ascii "line P0 P1 M0 M1 BL PF\nrefused 8 line 0 record 0\n" }
-    -- version 2 without its length
-    ∷ record { tape = 0x02 ∷ []; listing = ascii "line P0 P1 M0 M1 BL PF\nrefused 9 line 0 record 0\n" }
+    -- version 2
+    ∷ record { tape = 0x02 ∷ []; listing = ascii "line P0 P1 M0 M1 BL PF\nrefused 8 line 0 record 0\n" }
     -- no lines
     ∷ record { tape = 0x01 ∷ []; listing = ascii "line P0 P1 M0 M1 BL PF\ncx 00 00 00 00 00 00 00 00\n" }
     -- a lone length byte after one line
@@ -36,11 +43,5 @@ listing_cases =
           ∷ 0x00 ∷ 0x06 ∷ 0x00 ∷ 0x1F ∷ 0x00 ∷ 0x01 ∷ 0x2D ∷ 0x00
           ∷ [];
       listing = ascii "line P0 P1 M0 M1 BL PF\n0 - - - - 16 16\nrefused 7 line 1 record 1\n";
-    }
-    -- version 2: no lines; and the clock 228 after a line of no writes, as 227 and a wait of 0
-    ∷ record { tape = 0x02 ∷ 0x00 ∷ 0x00 ∷ 0x00 ∷ 0x00 ∷ []; listing = ascii "line P0 P1 M0 M1 BL PF\ncx 00 00 00 00 00 00 00 00\n" }
-    ∷ record {
-      tape = 0x02 ∷ 0x00 ∷ 0x00 ∷ 0x00 ∷ 0x08 ∷ 0x00 ∷ 0x02 ∷ 0xE3 ∷ 0x1F ∷ 0x02 ∷ 0x00 ∷ 0x1F ∷ 0x00 ∷ [];
-      listing = ascii "line P0 P1 M0 M1 BL PF\n0 - - - - - -\nrefused 5 line 1 record 1\n";
     }
     ∷ []

@@ -1,7 +1,7 @@
 // The text of each kind of printed line, at the start of a room of 64 bytes; each answers its length.
 ghost use Rattle.std.specs.Prelude.{◌++◌, ◌+◌, ◌≤◌, length};
 ghost use Rattle.tia.specs.FirstLit.{first_lit_of};
-ghost use Rattle.laws.specs.Room.{Put};
+ghost use Rattle.listing_text.specs.Room.{Put};
 ghost use Rattle.listing_text.specs.Text.{digits_of};
 ghost use Rattle.listing_text.specs.LineText.{heading, too_long, column_text, columns_text, row_text, eight_text, latches_text, refused_text};
 

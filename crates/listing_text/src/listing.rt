@@ -39,7 +39,7 @@ pub fn opening(tape: &[u8]) -> Printed
     }
     let length = heading_text(&mut room);
     Printed {
-        next: Next::Line(tape::first_place(tape)),
+        next: Next::Line(tape::FIRST_PLACE),
         state,
         room,
         length,

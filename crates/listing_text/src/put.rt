@@ -1,6 +1,6 @@
 // Text put into a line's room of 64 bytes: each function writes at a place and answers the place after it.
 ghost use Rattle.std.specs.Prelude.{◌≡◌, [], ◌∷◌, ◌+◌, ◌≤◌, ◌<◌, length};
-ghost use Rattle.laws.specs.Room.{Put};
+ghost use Rattle.listing_text.specs.Room.{Put};
 ghost use Rattle.listing_text.specs.Text.{digits_of, hex_digit, hex_byte};
 
 // One byte.

@@ -5,7 +5,7 @@ use Prim.Native.Nat.{ℕ, suc, ◌+◌, ◌-◌, ◌≤◌, ◌<◌}
 use native.Mathlib.Omega.{arith}
 use native.Mathlib.Nat.{suc-add}
 use lib.ListN.{length}
-use Rattle.tape.specs.Reading.{longest, first_place}
+use Rattle.tape.specs.Reading.{longest}
 use Rattle.tia.specs.declared.state.State.{State}
 use Rattle.tia.specs.State.{start_state}
 use Rattle.tia.specs.Line.{line_rooms}
@@ -21,7 +21,7 @@ pub record Followed (tape : List ℕ) (passed : List PlayedLine) (count : ℕ) (
   pub rest : (replay_of tape).lines ≡ passed ++ (replay_from (enough - count) s tape place).lines
 
 -- Before the first.
-pub followed_none : (tape : List ℕ) → length tape ≤ longest → Followed tape [] 0 start_state (first_place tape)
+pub followed_none : (tape : List ℕ) → length tape ≤ longest → Followed tape [] 0 start_state 1
 followed_none tape short = record { counted = refl; reached = refl; rest = rw (replay_enough tape short) refl }
 
 -- One line more: it is counted, and the state is the one after it.

@@ -4,5 +4,4 @@ pub mod FollowLaws
 pub mod PlayLaws
 pub mod RefusalLaws
 pub mod ReplayLaws
-pub mod StoppedLaws
 pub mod TapeDemand3Laws

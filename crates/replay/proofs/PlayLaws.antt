@@ -12,9 +12,8 @@ use Rattle.laws.proofs.OneToOne.{one_to_one}
 use Rattle.laws.proofs.Decides.{length_decided}
 use Rattle.tape.specs.declared.reading.Place.{Place}
 use Rattle.tape.specs.declared.reading.Place.TheVariants.{Line, Ended, Refused}
-use Rattle.tape.specs.Reading.{read_at, list_at, stopped}
+use Rattle.tape.specs.Reading.{read_at, stretch_at}
 use Rattle.tape.proofs.ReadingLaws.{line_there, stretch_length}
-use Rattle.tape.proofs.ListLaws.{list_length}
 use Rattle.tia.specs.declared.line_call.LineAnswer.{LineAnswer}
 use Rattle.tia.specs.declared.state.State.{State}
 use Rattle.tia.specs.Line.{line_of, Buffers, Rooms, rooms_of, pictures}
@@ -25,7 +24,6 @@ use Rattle.replay.specs.declared.play.Verdict.{Verdict}
 use Rattle.replay.specs.declared.play.Verdict.TheVariants as verdict
 use Rattle.replay.specs.Play.{line_verdict, play_answer, play_buffers, PlayPromise}
 use Rattle.replay.specs.Play.{VerdictNumbers, verdict_numbers, PlayNumbers, play_numbers}
-use Rattle.replay.proofs.StoppedLaws.{list_kept, accepted_list, stopped_promise}
 
 -- Equal numbers mean equal answers.
 verdict_back : VerdictNumbers → Verdict
@@ -57,13 +55,12 @@ play_answered s tape place lent answer after promise = same_play promise.0
 -- The promise by cases of the reading.
 module _ (s : State) (tape : List ℕ) (place : ℕ) (lent : Buffers) (found : Place) (read : found ≡ read_at tape place) where
   pub play_line :
-      (start end : ℕ) → found ≡ Line start end → (ws : List ℕ) → ws ≡ stopped (list_at tape place) → (answer : LineAnswer) (after : Buffers) →
+      (start end : ℕ) → found ≡ Line start end → (ws : List ℕ) → ws ≡ stretch_at tape place → (answer : LineAnswer) (after : Buffers) →
       LinePromise s ws lent answer after → (said : Verdict) → said ≡ line_verdict answer.number answer.index end →
       PlayPromise s tape place lent (record { verdict = said; state = answer.state }) after
   unfolding play_answer play_buffers
-  play_line start end line ws list answer after promise said e =
-      let given = stopped_promise s (list_at tape place) lent answer after (rw list at promise) in
-      (rw (← read, line, ← given.0, e), rw (← read, line) given.1)
+  play_line start end line ws stretch answer after promise said e =
+      (rw (← read, line, ← stretch, ← promise.0, e), rw (← read, line, ← stretch) promise.1)
 
   pub play_ended : found ≡ Ended → PlayPromise s tape place lent (record { verdict = verdict.Ended; state = s }) lent
   unfolding play_answer play_buffers
@@ -77,8 +74,8 @@ module _ (s : State) (tape : List ℕ) (place : ℕ) (lent : Buffers) (found : P
 pub record PlayedHere (s : State) (tape : List ℕ) (place : ℕ) (room : Rooms) (next : ℕ) : Type 0 where
   pub start : ℕ
   pub line : read_at tape place ≡ Line start next
-  pub number : (line_answer s (list_at tape place) room).number ≡ 0
-  pub state : (play_answer s tape place room).state ≡ (line_answer s (list_at tape place) room).state
+  pub number : (line_answer s (stretch_at tape place) room).number ≡ 0
+  pub state : (play_answer s tape place room).state ≡ (line_answer s (stretch_at tape place) room).state
 
 pub played_here :
     (s : State) (tape : List ℕ) (place : ℕ) (room : Rooms) (next : ℕ) → (play_answer s tape place room).verdict ≡ verdict.Played next →
@@ -93,7 +90,7 @@ played_here s tape place room next e = by_reading (read_at tape place) refl
     not_refused n i said = let z : ◌≡◌ {A = ℕ} 0 1 = cc in omega arith
 
     answer : LineAnswer
-    answer = line_answer s (list_at tape place) room
+    answer = line_answer s (stretch_at tape place) room
 
     by_number :
         (b : Bool) (start end : ℕ) → eqb answer.number 0 ≡ b → read_at tape place ≡ Line start end →
@@ -113,24 +110,17 @@ played_here s tape place room next e = by_reading (read_at tape place) refl
 pub played_pictures :
     (s : State) (tape : List ℕ) (place : ℕ) (lent : Buffers) (next : ℕ) →
     (play_answer s tape place (rooms_of lent)).verdict ≡ verdict.Played next →
-    play_buffers s tape place lent ≡ pictures (line_of s (list_at tape place))
+    play_buffers s tape place lent ≡ pictures (line_of s (stretch_at tape place))
 unfolding play_buffers line_answer line_buffers
 played_pictures s tape place lent next e =
     let here = played_here s tape place (rooms_of lent) next e in
-    rw (here.line, eq-eqb (line_fault s (list_at tape place) (rooms_of lent)).number 0 here.number)
+    rw (here.line, eq-eqb (line_fault s (stretch_at tape place) (rooms_of lent)).number 0 here.number)
 
 -- The line call never refuses the length of a line that was read (4): reading has checked it.
 pub list_length_read :
     (s : State) (tape : List ℕ) (place : ℕ) (room : Rooms) (start end : ℕ) → read_at tape place ≡ Line start end →
-    (line_answer s (list_at tape place) room).number ≡ for_list_length → ⊥
+    (line_answer s (stretch_at tape place) room).number ≡ for_list_length → ⊥
 list_length_read s tape place room start end line four =
-    let n = length (list_at tape place) in
-    let good : bad_length n ≡ false = rw (list_length tape place, stretch_length tape place start end line) (line_there tape place start end line).listed in
-    (length_decided n).fails good ((line_refused_exactly s (list_at tape place) room).1.1.1.1.0.0 four).1
-
--- Its write list is one of bytes as it is.
-pub played_list :
-    (s : State) (tape : List ℕ) (place : ℕ) (room : Rooms) (next : ℕ) → (play_answer s tape place room).verdict ≡ verdict.Played next →
-    stopped (list_at tape place) ≡ list_at tape place
-played_list s tape place room next e =
-    list_kept (list_at tape place) (accepted_list s (list_at tape place) room (played_here s tape place room next e).number)
+    let n = length (stretch_at tape place) in
+    let good : bad_length n ≡ false = rw (stretch_length tape place start end line) (line_there tape place start end line).listed in
+    (length_decided n).fails good ((line_refused_exactly s (stretch_at tape place) room).1.1.1.1.0.0 four).1

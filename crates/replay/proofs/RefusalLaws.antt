@@ -13,10 +13,8 @@ use Rattle.laws.proofs.Decides.{differs, both}
 use Rattle.laws.proofs.Refusals.{Check, first_of, in_order}
 use Rattle.tape.specs.declared.reading.Place.{Place}
 use Rattle.tape.specs.declared.reading.Place.TheVariants.{Line, Ended, Refused}
-use Rattle.tape.specs.Form.{form_of}
-use Rattle.tape.specs.Reading.{bad_version, read_at, list_at, place_answer}
-use Rattle.tape.proofs.ListLaws.{list_length}
-use Rattle.tape.proofs.ReadingLaws.{read_answered, line_there, stretch_length, some_ahead}
+use Rattle.tape.specs.Reading.{bad_version, read_at, stretch_at, place_answer}
+use Rattle.tape.proofs.ReadingLaws.{read_answered, line_there, stretch_length}
 use Rattle.tape.proofs.RefusalLaws.{bad_line, tape_end, reading_checks, reading_number}
 use Rattle.tia.specs.declared.state.State.{State}
 use Rattle.tia.specs.Line.{Rooms}
@@ -27,7 +25,7 @@ use Rattle.replay.specs.Play.{line_verdict, played_at, play_answer, verdict_numb
 use Rattle.replay.specs.PlayRows.{play_rows}
 
 -- The checks of the line call but for the fifth, that of the list's length, behind the test that the tape has not ended.
-abbrev pub behind_test : List ℕ → (place : ℕ) → Check → Check
+abbrev behind_test : List ℕ → (place : ℕ) → Check → Check
 behind_test tape place c =
     let more = not (eqb place (length tape)) in
     record {
@@ -44,12 +42,12 @@ but_fifth (a ∷ b ∷ c ∷ []) = []
 but_fifth (a ∷ b ∷ c ∷ d ∷ []) = []
 but_fifth (a ∷ b ∷ c ∷ d ∷ e ∷ rest) = a ∷ b ∷ c ∷ d ∷ rest
 
-abbrev pub behind_all : List ℕ → (place : ℕ) → List {1} Check → List {1} Check
+abbrev behind_all : List ℕ → (place : ℕ) → List {1} Check → List {1} Check
 behind_all tape place [] = []
 behind_all tape place (c ∷ cs) = behind_test tape place c ∷ behind_all tape place cs
 
 -- The number of reading's three tests before others.
-pub after_three :
+after_three :
     (version end length : Bool) (later : ℕ) →
     cond version for_version (cond end for_tape_end (cond length for_list_length later))
     ≡ cond (eqb (cond version for_version (cond end for_tape_end (cond length for_list_length 0))) 0) later
@@ -69,7 +67,7 @@ verdict_number number index end = by_test (eqb number 0) refl
 
 module _ (s : State) (tape : List ℕ) (place : ℕ) (room : Rooms) where
   abbrev played_checks : List {1} Check
-  played_checks = behind_all tape place (but_fifth (line_checks s (list_at tape place) room))
+  played_checks = behind_all tape place (but_fifth (line_checks s (stretch_at tape place) room))
 
   abbrev play_checks : List {1} Check
   play_checks = reading_checks tape place ++ played_checks
@@ -77,13 +75,13 @@ module _ (s : State) (tape : List ℕ) (place : ℕ) (room : Rooms) where
   -- By what stands at the place: the reading's number, or the line's.
   by_reading :
       (found : Place) → read_at tape place ≡ found →
-      (verdict_numbers (played_at s (list_at tape place) room found).verdict).number
+      (verdict_numbers (played_at s (stretch_at tape place) room found).verdict).number
       ≡ cond (eqb (place_answer found).number 0) (first_of played_checks) (place_answer found).number
   by_reading (Line start end) e =
-      let ws = list_at tape place in
+      let ws = stretch_at tape place in
       let line = line_there tape place start end e in
-      let listed : bad_length (length ws) ≡ false = rw (list_length tape place, stretch_length tape place start end e) line.listed in
-      let more : place ≡ length tape → ⊥ = λ at_end. omega (arith, some_ahead tape) in
+      let listed : bad_length (length ws) ≡ false = rw (stretch_length tape place start end e) line.listed in
+      let more : place ≡ length tape → ⊥ = λ at_end. omega arith in
       verdict_number (line_answer s ws room).number (line_answer s ws room).index end
       ∙ line_number s ws room
       ∙ rw (listed, ne_eqb place (length tape) more)
@@ -94,8 +92,7 @@ module _ (s : State) (tape : List ℕ) (place : ℕ) (room : Rooms) where
   unfolding play_answer
   play_number =
       by_reading (read_at tape place) refl
-      ∙ rw (reading_number tape place)
-      (sym (after_three (bad_version tape) (tape_end (form_of tape) tape place) (bad_line (form_of tape) tape place) (first_of played_checks)))
+      ∙ rw (reading_number tape place) (sym (after_three (bad_version tape) (tape_end tape place) (bad_line tape place) (first_of played_checks)))
 
   pub play_refused_exactly : GivenInOrder (play_rows s tape place room) (verdict_numbers (play_answer s tape place room).verdict).number
   play_refused_exactly = rw play_number (in_order play_checks refl)

@@ -1,19 +1,18 @@
--- A replay line by line, and its end: each line takes a byte or more, so a replay that may play more lines than the tape has
+-- A replay line by line, and its end: each line takes two bytes or more, so a replay that may play more lines than the tape has
 -- bytes stops at the tape's end or at a refusal, and then a higher limit changes nothing.
 use mathlib.Core.Path.{◌≡◌, refl}
 use mathlib.Core.Bool.{Bool, true, false, cond}
 use mathlib.Core.List.{List, [], ◌∷◌}
 use Prim.Native.Nat.{ℕ, zero, suc, ◌+◌, ◌-◌, ◌*◌, ◌≤◌, ◌<◌}
-use native.Mathlib.Nat.{suc-add, mul-zero, mul-suc}
+use native.Mathlib.Nat.{suc-add}
 use native.Mathlib.Omega.{arith}
 use borrow.Author.Tests.{eqb-false}
 use lib.Dec.{eqb}
 use lib.ListN.{length}
 use Rattle.tape.specs.declared.reading.Place.{Place}
 use Rattle.tape.specs.declared.reading.Place.TheVariants as place
-use Rattle.tape.specs.Form.{form_of}
-use Rattle.tape.specs.Reading.{longest, read_at, first_place, list_at}
-use Rattle.tape.proofs.ReadingLaws.{line_there, some_ahead}
+use Rattle.tape.specs.Reading.{longest, read_at, stretch_at}
+use Rattle.tape.proofs.ReadingLaws.{line_there}
 use Rattle.tia.specs.declared.line_call.LineAnswer.{LineAnswer}
 use Rattle.tia.specs.declared.state.State.{State}
 use Rattle.tia.specs.State.{start_state}
@@ -39,17 +38,17 @@ unfolding play_answer
 unplayed_state s tape at room = by_reading (read_at tape at)
   where
     answer : LineAnswer
-    answer = line_answer s (list_at tape at) room
+    answer = line_answer s (stretch_at tape at) room
 
     by_number :
         (b : Bool) (end : ℕ) → eqb answer.number 0 ≡ b →
         Stopped (cond b (Played end) (Refused answer.number answer.index)) → answer.state ≡ s
     by_number true end e stopped = absurd stopped
-    by_number false end e stopped = refused_line_state s (list_at tape at) room (eqb-false answer.number 0 e)
+    by_number false end e stopped = refused_line_state s (stretch_at tape at) room (eqb-false answer.number 0 e)
 
     by_reading :
-        (found : Place) → Stopped (played_at s (list_at tape at) room found).verdict →
-        (played_at s (list_at tape at) room found).state ≡ s
+        (found : Place) → Stopped (played_at s (stretch_at tape at) room found).verdict →
+        (played_at s (stretch_at tape at) room found).state ≡ s
     by_reading (place.Line start end) stopped = by_number (eqb answer.number 0) end refl stopped
     by_reading place.Ended stopped = refl
     by_reading (place.Refused n) stopped = refl
@@ -80,9 +79,9 @@ over_replay tape Holds none line stop (suc limit) s at =
     by_verdict Ended e later = stop limit s at Ended e tt
     by_verdict (Refused n i) e later = stop limit s at (Refused n i) e tt
 
--- The next place lies on by the bytes ahead of a line's writes or more, within the tape.
+-- The next place lies two bytes on or more, within the tape.
 record Onward (tape : List ℕ) (at next : ℕ) : Type 0 where
-  on : at + (form_of tape).ahead ≤ next
+  on : at + 2 ≤ next
   inside : next ≤ length tape
 
 onward : (s : State) (tape : List ℕ) (at next : ℕ) → (play_answer s tape at line_rooms).verdict ≡ Played next → Onward tape at next
@@ -101,34 +100,32 @@ replay_stops tape =
     (λ s at some enough. absurd (omega arith))
     (λ limit s at next later e holds some enough.
     let go = onward s tape at next e in
-    let ahead = some_ahead tape in
     holds (omega arith) (omega arith))
     (λ limit s at v e stopped some enough. stopped)
 
 -- A whole replay ends at the tape's end or at a refusal.
 pub replay_ends : (tape : List ℕ) → Stopped (replay_of tape).verdict
 unfolding replay_of
-replay_ends tape = replay_stops tape (suc (length tape)) _ (first_place tape) (omega arith) (omega arith)
+replay_ends tape = replay_stops tape (suc (length tape)) _ 1 (omega arith) (omega arith)
 
 replay_fits :
     (tape : List ℕ) (limit : ℕ) (s : State) (at : ℕ) → at ≤ length tape →
-    at + (form_of tape).ahead * length (replay_from limit s tape at).lines ≤ length tape
+    at + 2 * length (replay_from limit s tape at).lines ≤ length tape
 replay_fits tape =
     over_replay
     tape
-    (λ limit s at r. at ≤ length tape → at + (form_of tape).ahead * length r.lines ≤ length tape)
-    (λ s at within. rw mul-zero (omega arith))
+    (λ limit s at r. at ≤ length tape → at + 2 * length r.lines ≤ length tape)
+    (λ s at within. omega arith)
     (λ limit s at next later e holds within.
     let go = onward s tape at next e in
     let fits = holds go.inside in
-    rw mul-suc (omega arith))
-    (λ limit s at v e stopped within. rw mul-zero (omega arith))
+    omega arith)
+    (λ limit s at v e stopped within. omega arith)
 
--- A tape has for each line the bytes ahead of its writes or more: two in version 1, one in version 2.
-pub replay_lines :
-    (tape : List ℕ) → first_place tape ≤ length tape → first_place tape + (form_of tape).ahead * length (replay_of tape).lines ≤ length tape
+-- A tape has two bytes or more for each line after its version byte.
+pub replay_lines : (tape : List ℕ) → 1 ≤ length tape → 1 + 2 * length (replay_of tape).lines ≤ length tape
 unfolding replay_of
-replay_lines tape some = replay_fits tape (suc (length tape)) start_state (first_place tape) some
+replay_lines tape some = replay_fits tape (suc (length tape)) start_state 1 some
 
 -- A replay that has stopped is the same with a higher limit.
 stops_there : (line : PlayedLine) (rest : ℕ → Replay) (v : Verdict) → Stopped v → and_then v line rest ≡ record { lines = []; verdict = v }
@@ -148,15 +145,15 @@ replay_same tape =
     (λ limit s at next later e holds more stopped. rw (suc-add limit more, e, holds more stopped))
     (λ limit s at v e stopped more again. rw (suc-add limit more, e) (stops_there (line_from s tape at) _ v stopped))
 
-pub replay_limit : (tape : List ℕ) (more : ℕ) → replay_from (suc (length tape) + more) start_state tape (first_place tape) ≡ replay_of tape
+pub replay_limit : (tape : List ℕ) (more : ℕ) → replay_from (suc (length tape) + more) start_state tape 1 ≡ replay_of tape
 unfolding replay_of
-replay_limit tape more = replay_same tape (suc (length tape)) start_state (first_place tape) more (replay_ends tape)
+replay_limit tape more = replay_same tape (suc (length tape)) start_state 1 more (replay_ends tape)
 
 -- More steps than the longest tape has lines: a tape that is no longer is replayed whole.
 abbrev pub enough : ℕ
 enough = suc longest
 
-pub replay_enough : (tape : List ℕ) → length tape ≤ longest → replay_from enough start_state tape (first_place tape) ≡ replay_of tape
+pub replay_enough : (tape : List ℕ) → length tape ≤ longest → replay_from enough start_state tape 1 ≡ replay_of tape
 replay_enough tape short =
     let all : suc (length tape) + (longest - length tape) ≡ enough = omega arith in
     rw all at (replay_limit tape (longest - length tape))

@@ -5,7 +5,6 @@ use mathlib.Core.List.{List, [], ◌∷◌, ◌++◌}
 use Prim.Native.Nat.{ℕ, suc}
 use borrow.Author.Tests.{eq-eqb}
 use lib.ListN.{length, replicate}
-use Rattle.tape.specs.Reading.{first_place}
 use Rattle.tia.specs.declared.state.State.{State}
 use Rattle.tia.specs.State.{start_state}
 use Rattle.tia.specs.Line.{line_of, buffers, line_rooms}
@@ -27,7 +26,7 @@ use Rattle.replay.proofs.ChainLaws.{Follows, Chained, replay_chained, chain_firs
 abbrev call_of : (s : State) (l : PlayedLine) → Follows s l → Call
 call_of s l f =
     record {
-      writes = l.list;
+      writes = l.writes;
       lent = buffers (replicate 160 0) (replicate 160 0);
       writes_slice = f.slice;
       objects_slice = refl;
@@ -49,9 +48,9 @@ module _ (s : State) (l : PlayedLine) (f : Follows s l) where
     -- It ends at a line start.
     line_starts : LineStart l.state
     line_starts =
-        let next : l.state ≡ (line_of s l.list).state = sym call_state ∙ call_accepted.state in
-        let bytes = slice_bytes l.list f.slice in
-        (rw next (line_good l.list s bytes start.0), rw next (line_restarts s l.list start.1))
+        let next : l.state ≡ (line_of s l.writes).state = sym call_state ∙ call_accepted.state in
+        let bytes = slice_bytes l.writes f.slice in
+        (rw next (line_good l.writes s bytes start.0), rw next (line_restarts s l.writes start.1))
 
 -- Played lines as a run of line calls.
 abbrev calls_of : (s : State) (ls : List PlayedLine) → Chained s ls → List Call
@@ -69,10 +68,10 @@ calls_lists :
 unfolding accepted_lists
 calls_lists s [] chain = refl
 calls_lists s (l ∷ ls) chain =
-    let accepted-one = eq-eqb (line_answer s l.list line_rooms).number 0 chain.0.number in
+    let accepted-one = eq-eqb (line_answer s l.writes line_rooms).number 0 chain.0.number in
     rw accepted-one
-    (ap (λ (t : State). records_of l.list ∷ accepted_lists defined_line t (calls_of l.state ls chain.1)) (call_state s l chain.0)
-    ∙ ap (λ (later : List (List TimedWrite)). records_of l.list ∷ later) (calls_lists l.state ls chain.1))
+    (ap (λ (t : State). records_of l.writes ∷ accepted_lists defined_line t (calls_of l.state ls chain.1)) (call_state s l chain.0)
+    ∙ ap (λ (later : List (List TimedWrite)). records_of l.writes ∷ later) (calls_lists l.state ls chain.1))
 
 chain_starts : (s : State) (ls : List PlayedLine) → Chained s ls → LineStart s → LineStart (state_after_lines s ls)
 chain_starts s [] chain start = start
@@ -85,7 +84,7 @@ start_starts = (start_good, start_clock)
 module _ (tape : List ℕ) (all : all_bytes tape ≡ true) (o : Movable) where
   whole : Chained start_state (replay_of tape).lines
   unfolding replay_of
-  whole = replay_chained tape all (suc (length tape)) start_state (first_place tape)
+  whole = replay_chained tape all (suc (length tape)) start_state 1
 
   tape_position : TapePosition o tape
   tape_position before run after split slot ok =

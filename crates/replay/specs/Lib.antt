@@ -2,5 +2,4 @@
 pub mod Play
 pub mod PlayRows
 pub mod Replay
-pub mod Same
 pub mod TapeDemand3

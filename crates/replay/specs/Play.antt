@@ -1,8 +1,8 @@
--- Playing one line of a tape, of either version: reading first, then the line.
+-- Playing one line of a tape: reading first, then the line.
 use Rattle.std.specs.Prelude.{ℕ, ◌≡◌, cond, List, eqb}
 use Rattle.tape.specs.declared.reading.Place.{Place}
 use Rattle.tape.specs.declared.reading.Place.TheVariants.{Line, Ended, Refused}
-use Rattle.tape.specs.Reading.{read_at, list_at}
+use Rattle.tape.specs.Reading.{read_at, stretch_at}
 use Rattle.tia.specs.declared.line_call.LineAnswer.{LineAnswer}
 use Rattle.tia.specs.declared.state.State.{State}
 use Rattle.tia.specs.Line.{Buffers, Rooms, rooms_of}
@@ -18,23 +18,23 @@ line_verdict number index end = cond (eqb number 0) (verdict.Played end) (verdic
 abbrev pub played_line : LineAnswer → (end : ℕ) → PlayAnswer
 played_line answer end = record { verdict = line_verdict answer.number answer.index end; state = answer.state }
 
--- What is played where a reading found a line with this write list; at the tape's end and where the reading is refused, nothing.
-abbrev pub played_at : State → (list : List ℕ) → Rooms → Place → PlayAnswer
+-- What is played where a reading found a line with these writes; at the tape's end and where the reading is refused, nothing.
+abbrev pub played_at : State → (writes : List ℕ) → Rooms → Place → PlayAnswer
 played_at s ws room (Line start end) = played_line (line_answer s ws room) end
 played_at s ws room Ended = record { verdict = verdict.Ended; state = s }
 played_at s ws room (Refused n) = record { verdict = verdict.Refused n 0; state = s }
 
 unfoldable pub play_answer : State → (tape : List ℕ) (place : ℕ) → Rooms → PlayAnswer
-play_answer s tape place room = played_at s (list_at tape place) room (read_at tape place)
+play_answer s tape place room = played_at s (stretch_at tape place) room (read_at tape place)
 
 -- The lent buffers after the call: as the line call leaves them; where no line is read, as they were.
-abbrev pub buffers_at : State → (list : List ℕ) → Buffers → Place → Buffers
+abbrev pub buffers_at : State → (writes : List ℕ) → Buffers → Place → Buffers
 buffers_at s ws lent (Line start end) = line_buffers s ws lent
 buffers_at s ws lent Ended = lent
 buffers_at s ws lent (Refused n) = lent
 
 unfoldable pub play_buffers : State → (tape : List ℕ) (place : ℕ) → Buffers → Buffers
-play_buffers s tape place lent = buffers_at s (list_at tape place) lent (read_at tape place)
+play_buffers s tape place lent = buffers_at s (stretch_at tape place) lent (read_at tape place)
 
 -- The paper's numbers for each verdict: the case (0 played, 1 ended, 2 refused), the refusal number (0: not refused), the index of
 -- the record at fault, and the next place, 0 where there is none; then those of the answer. Different answers have different

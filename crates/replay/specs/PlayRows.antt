@@ -1,7 +1,7 @@
 -- What is said of playing a line of a tape: the rows of the refusal table, in their order.
 use Rattle.std.specs.Prelude.{ℕ, ◌≡◌, List, [], ◌∷◌, ◌++◌, length}
 use Rattle.laws.specs.Refusal.{Row, row}
-use Rattle.tape.specs.Reading.{list_at}
+use Rattle.tape.specs.Reading.{stretch_at}
 use Rattle.tape.specs.ReadingRows.{reading_rows}
 use Rattle.tia.specs.declared.state.State.{State}
 use Rattle.tia.specs.Line.{Rooms}
@@ -17,7 +17,7 @@ all_behind tape place (r ∷ rs) = behind tape place r ∷ all_behind tape place
 
 -- The rows of the line call but for row 4, which reading has checked: 1 to 3, 11, then 5 to 7.
 abbrev pub played_rows : State → (tape : List ℕ) (place : ℕ) → Rooms → List {1} Row
-played_rows s tape place room = all_behind tape place (call_rows s room ++ list_rows (list_at tape place))
+played_rows s tape place room = all_behind tape place (call_rows s room ++ list_rows (stretch_at tape place))
 
 -- Reading's rows, 8, 9 and 4, then the line's.
 abbrev pub play_rows : State → (tape : List ℕ) (place : ℕ) → Rooms → List {1} Row

@@ -1,6 +1,6 @@
 -- The replay of a tape: its lines played one after another, each from the state that the one before handed back.
 use Rattle.std.specs.Prelude.{ℕ, zero, suc, List, [], ◌∷◌, length}
-use Rattle.tape.specs.Reading.{first_place, stretch_at, list_at}
+use Rattle.tape.specs.Reading.{version1, stretch_at}
 use Rattle.tia.specs.declared.state.State.{State}
 use Rattle.tia.specs.State.{start_state}
 use Rattle.tia.specs.Line.{line_of, Buffers, line_rooms, pictures}
@@ -8,10 +8,9 @@ use Rattle.replay.specs.declared.play.Verdict.{Verdict}
 use Rattle.replay.specs.declared.play.Verdict.TheVariants.{Played, Ended, Refused}
 use Rattle.replay.specs.Play.{play_answer}
 
--- A line that was played: its writes as the tape holds them, its write list, its object bytes and colours, and the state after it.
+-- A line that was played: its writes as the tape holds them, its object bytes and colours, and the state after it.
 pub record PlayedLine : Type 0 where
   pub writes : List ℕ
-  pub list : List ℕ
   pub filled : Buffers
   pub state : State
 
@@ -37,13 +36,8 @@ and_then (Refused n i) line rest = record { lines = []; verdict = Refused n i }
 -- The line at a place, played from a state.
 abbrev pub line_from : State → (tape : List ℕ) (place : ℕ) → PlayedLine
 line_from s tape place =
-    let list = list_at tape place in
-    record {
-      writes = stretch_at tape place;
-      list = list;
-      filled = pictures (line_of s list);
-      state = (play_answer s tape place line_rooms).state;
-    }
+    let writes = stretch_at tape place in
+    record { writes = writes; filled = pictures (line_of s writes); state = (play_answer s tape place line_rooms).state }
 
 -- At most so many lines from a place on, the first of them from a state.
 unfoldable pub replay_from : (limit : ℕ) → State → (tape : List ℕ) (place : ℕ) → Replay
@@ -54,4 +48,4 @@ replay_from (suc limit) s tape place =
 
 -- A whole tape from the start state. It has fewer lines than bytes.
 unfoldable pub replay_of : (tape : List ℕ) → Replay
-replay_of tape = replay_from (suc (length tape)) start_state tape (first_place tape)
+replay_of tape = replay_from (suc (length tape)) start_state tape version1.first

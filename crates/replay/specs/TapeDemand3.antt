@@ -1,4 +1,4 @@
--- Demand 3 for a tape of either version that is replayed from the start state.
+-- Demand 3 for a tape that is replayed from the start state.
 use Rattle.std.specs.Prelude.{ℕ, ◌<◌, ◌≡◌, true, List, [], ◌∷◌, ◌++◌}
 use Rattle.tia.specs.State.{start_state}
 use Rattle.tia.specs.Timing.{no_motion}
@@ -18,10 +18,10 @@ use Rattle.replay.specs.Replay.{PlayedLine, state_after_lines, replay_of}
 -- before the third, then column x of the fourth has the object's bit exactly where column (x + sum) modulo 160 of the second had it.
 -- A line that is refused ends the replay, so all of these lines are accepted.
 
--- The records of some lines' write lists.
+-- The records of some lines' writes.
 abbrev pub records_of_lines : List PlayedLine → List (List TimedWrite)
 records_of_lines [] = []
-records_of_lines (l ∷ ls) = records_of l.list ∷ records_of_lines ls
+records_of_lines (l ∷ ls) = records_of l.writes ∷ records_of_lines ls
 
 abbrev pub TapePosition : Movable → List ℕ → Type 0
 TapePosition o tape =
@@ -35,7 +35,7 @@ abbrev pub TapePicture : Movable → List ℕ → Type 0
 TapePicture o tape =
     (before run after : List PlayedLine) (one two three four : PlayedLine) →
     (replay_of tape).lines ≡ before ++ (one ∷ two ∷ (run ++ (three ∷ four ∷ after))) →
-    one.list ≡ [] → two.list ≡ [] → three.list ≡ [] → four.list ≡ [] →
+    one.writes ≡ [] → two.writes ≡ [] → three.writes ≡ [] → four.writes ≡ [] →
     let s = state_after_lines start_state before in
     let lists = records_of_lines run in
     allowed o lists ≡ true → drawing_of o s.registers ≡ drawing_of o (state_after_lines two.state run).registers →

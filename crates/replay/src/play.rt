@@ -32,9 +32,9 @@ fn line_verdict(number: u8, index: u8, end: usize) -> Verdict
     Verdict::Refused { number, index }
 }
 
-// Plays the line at a place of a tape of either version: the next state, the next place, the line's 160 answer bytes in the
-// buffer and their colours in the second. At the tape's end state and buffers stay as they are. Refuses as reading the tape does
-// (8, 9, 4, 9), then as the line call does (1, 2, 3, 11, 5 to 7).
+// Plays the line at a place of a tape: the next state, the next place, the line's 160 answer bytes in the buffer and their
+// colours in the second. At the tape's end state and buffers stay as they are. Refuses as reading the tape does (8, 9, 4, 9),
+// then as the line call does (1, 2, 3, 11, 5 to 7).
 pub fn play_line(
     state: State,
     tape: &[u8],
@@ -47,10 +47,7 @@ pub fn play_line(
     let found = tape::read_at(tape, place);
     match found {
         Place::Line { start: _, end } => {
-            let list = tape::list_at(tape, place);
-            let bytes = list.bytes;
-            let length = list.length;
-            let answer = tia::line(state, &bytes[0..length], buffer, colours);
+            let answer = tia::line(state, tape::stretch_at(tape, place), buffer, colours);
             let next = answer.state;
             PlayAnswer {
                 verdict: line_verdict(answer.number, answer.index, end),

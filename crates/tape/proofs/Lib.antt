@@ -1,4 +1,3 @@
 -- Laws of tapes.
-pub mod ListLaws
 pub mod ReadingLaws
 pub mod RefusalLaws

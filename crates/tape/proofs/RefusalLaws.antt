@@ -12,19 +12,18 @@ use Rattle.laws.specs.Refusal.{GivenInOrder}
 use Rattle.laws.specs.Numbers.{bad_length, for_list_length, for_version, for_tape_end}
 use Rattle.laws.proofs.Bools.{or_second}
 use Rattle.laws.proofs.Split.{split}
-use Rattle.laws.proofs.Decides.{Decides, less, at_most, equal, negation, either, neither, both, misses, length_decided}
+use Rattle.laws.proofs.Decides.{Decides, less, at_most, equal, differs, negation, either, both, length_decided}
 use Rattle.laws.proofs.Refusals.{Check, check, first_of, in_order}
-use Rattle.tape.specs.Form.{Form, form_of}
-use Rattle.tape.specs.Reading.{bad_version, misplaced, line_at, place_at, read_at, place_answer, read_answer}
-use Rattle.tape.specs.ReadingRows.{Unversioned, reading_rows}
-use Rattle.tape.proofs.ReadingLaws.{by_tests, some_ahead}
+use Rattle.tape.specs.Reading.{bad_version, line_at, place_at, read_at, place_answer, read_answer}
+use Rattle.tape.specs.ReadingRows.{length_at, Unversioned, reading_rows}
+use Rattle.tape.proofs.ReadingLaws.{by_tests}
 
 -- The version test decides row 8.
 pub version_decided : (tape : List ℕ) → Decides (bad_version tape) (Unversioned tape)
 unfolding bad_version
 version_decided [] = record { holds = λ e. inl refl; fails = λ e. absurd (true≢false e) }
 version_decided (v ∷ rest) =
-    let other = neither (eqb v 1) (eqb v 2) (equal v 1) (equal v 2) in
+    let other = differs v 1 in
     record { holds = λ e. inr (other.holds e); fails = λ e. ⊎_elim (λ (none : length (v ∷ rest) ≡ 0). omega arith) (other.fails e) }
 
 -- The number of a reading, by the tests of its definition.
@@ -46,101 +45,90 @@ cut_or_bad true cut = refl
 cut_or_bad false true = refl
 cut_or_bad false false = refl
 
-module _ (f : Form) (tape : List ℕ) (place : ℕ) where
+module _ (tape : List ℕ) (place : ℕ) where
   -- The tests that decide the rows.
-  abbrev pub whole : Bool
-  whole = leb (place + f.ahead) (length tape)
+  abbrev pub outside : Bool
+  outside = ltb place 1 || ltb (length tape) place
 
-  abbrev pub lone : Bool
-  lone = ltb place (length tape) && ltb (length tape) (place + f.ahead)
+  abbrev pub whole : Bool
+  whole = leb (place + 2) (length tape)
 
   abbrev pub bad_line : Bool
-  bad_line = whole && bad_length (f.announced tape place)
+  bad_line = whole && bad_length (length_at tape place)
 
   abbrev pub cut_line : Bool
-  cut_line = whole && ltb (length tape) (place + f.ahead + f.announced tape place)
+  cut_line = whole && ltb (length tape) (place + 2 + length_at tape place)
 
   abbrev pub tape_end : Bool
-  tape_end = (misplaced f tape place || lone) || (not bad_line && cut_line)
+  tape_end = (outside || eqb (place + 1) (length tape)) || (not bad_line && cut_line)
+
+  abbrev pub reading_checks : List {1} Check
+  reading_checks =
+      let bad = both whole _ (at_most (place + 2) (length tape)) (length_decided (length_at tape place)) in
+      let cut = both whole _ (at_most (place + 2) (length tape)) (less (length tape) (place + 2 + length_at tape place)) in
+      let out = either _ _ (less place 1) (less (length tape) place) in
+      let lone = equal (place + 1) (length tape) in
+      check for_version (bad_version tape) (version_decided tape)
+      ∷ check for_tape_end tape_end (either _ _ (either outside _ out lone) (both _ cut_line (negation bad_line bad) cut))
+      ∷ check for_list_length bad_line bad
+      ∷ []
 
   -- Within the tape the reading's tests give what the rows' tests give.
   tests_agree :
-      (out : Bool) → (out ≡ false → place ≤ length tape) → (bad cut : Bool) → 1 ≤ f.ahead →
+      (out : Bool) → (out ≡ false → place ≤ length tape) → (bad cut : Bool) →
       cond out for_tape_end
       (cond (eqb place (length tape)) 0
-      (cond (ltb (length tape) (place + f.ahead)) for_tape_end (cond bad for_list_length (cond cut for_tape_end 0))))
-      ≡ cond ((out || lone) || (not (whole && bad) && (whole && cut))) for_tape_end (cond (whole && bad) for_list_length 0)
-  tests_agree true there bad cut some = refl
-  tests_agree false there bad cut some =
+      (cond (ltb (length tape) (place + 2)) for_tape_end (cond bad for_list_length (cond cut for_tape_end 0))))
+      ≡ cond ((out || eqb (place + 1) (length tape)) || (not (whole && bad) && (whole && cut))) for_tape_end
+      (cond (whole && bad) for_list_length 0)
+  tests_agree true there bad cut = refl
+  tests_agree false there bad cut =
       let within = there refl in
       ⊎_elim
-      (λ (few : length tape < place + f.ahead).
-      ⊎_elim
-      (λ (before : place < length tape).
+      (λ (more : place + 1 < length tape).
       rw (
         ne_eqb place (length tape) (omega arith),
-        lt-ltb (length tape) (place + f.ahead) few,
-        lt-ltb place (length tape) before,
+        le-ltb (length tape) (place + 2) (omega arith),
+        ne_eqb (place + 1) (length tape) (omega arith),
+        le-leb (place + 2) (length tape) (omega arith),
+      )
+      (cut_or_bad bad cut))
+      (λ (few : length tape ≤ place + 1).
+      ⊎_elim
+      (λ (lone : place < length tape).
+      rw (
+        ne_eqb place (length tape) (omega arith),
+        lt-ltb (length tape) (place + 2) (omega arith),
+        eq-eqb (place + 1) (length tape) (omega arith),
       ))
       (λ (ended : length tape ≤ place).
       rw (
         eq-eqb place (length tape) (omega arith),
-        le-ltb place (length tape) ended,
-        lt-leb (place + f.ahead) (length tape) few,
+        ne_eqb (place + 1) (length tape) (omega arith),
+        lt-leb (place + 2) (length tape) (omega arith),
       ))
       (split place (length tape)))
-      (λ (more : place + f.ahead ≤ length tape).
-      rw (
-        ne_eqb place (length tape) (omega arith),
-        le-ltb (length tape) (place + f.ahead) more,
-        lt-ltb place (length tape) (omega arith),
-        le-leb (place + f.ahead) (length tape) more,
-      )
-      (cut_or_bad bad cut))
-      (split (length tape) (place + f.ahead))
-
-module _ (tape : List ℕ) (place : ℕ) where
-  abbrev pub reading_checks : List {1} Check
-  reading_checks =
-      let f = form_of tape in
-      let told = at_most (place + f.ahead) (length tape) in
-      let bad = both (whole f tape place) _ told (length_decided (f.announced tape place)) in
-      let cut = both (whole f tape place) _ told (less (length tape) (place + f.ahead + f.announced tape place)) in
-      let bounds = either _ _ (less place f.first) (less (length tape) place) in
-      let out = either (not (f.agrees tape)) _ (misses (f.agrees tape)) bounds in
-      let alone = both (ltb place (length tape)) _ (less place (length tape)) (less (length tape) (place + f.ahead)) in
-      check for_version (bad_version tape) (version_decided tape)
-      ∷ check for_tape_end (tape_end f tape place)
-      (either _ _ (either (misplaced f tape place) _ out alone) (both _ (cut_line f tape place) (negation (bad_line f tape place) bad) cut))
-      ∷ check for_list_length (bad_line f tape place) bad
-      ∷ []
+      (split (place + 1) (length tape))
 
   pub reading_number : (read_answer tape place).number ≡ first_of reading_checks
   unfolding read_at place_at line_at
   reading_number =
-      let f = form_of tape in
-      let bytes = f.announced tape place in
+      let bytes = length_at tape place in
       number_by_tests
       (bad_version tape)
-      (misplaced f tape place)
+      outside
       (eqb place (length tape))
-      (ltb (length tape) (place + f.ahead))
+      (ltb (length tape) (place + 2))
       (bad_length bytes)
-      (ltb (length tape) (place + f.ahead + bytes))
-      (place + f.ahead)
-      (place + f.ahead + bytes)
+      (ltb (length tape) (place + 2 + bytes))
+      (place + 2)
+      (place + 2 + bytes)
       ∙ ap (cond (bad_version tape) for_version)
       (tests_agree
-      f
-      tape
-      place
-      (misplaced f tape place)
-      (λ inside.
-      let bounds = or_second (not (f.agrees tape)) _ inside in
-      omega (arith, ltb-false (length tape) place (or_second (ltb place f.first) _ bounds)))
+      outside
+      (λ inside. omega (arith, ltb-false (length tape) place (or_second (ltb place 1) _ inside)))
       (bad_length bytes)
-      (ltb (length tape) (place + f.ahead + bytes))
-      (some_ahead tape))
+      (ltb (length tape) (place + 2 + bytes)))
 
   -- Reading refuses by rows 8, 9 and 4, and nothing else.
   pub read_refused_exactly : GivenInOrder (reading_rows tape place) (read_answer tape place).number

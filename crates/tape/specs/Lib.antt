@@ -1,5 +1,3 @@
--- Tapes: the two versions, reading at a place, the rows of the refusal table for it, and the printed tape.
-pub mod Form
+-- Tapes: reading at a place, and the rows of the refusal table for it.
 pub mod Reading
 pub mod ReadingRows
-pub mod PrintedTape

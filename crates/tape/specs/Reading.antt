@@ -1,46 +1,49 @@
--- A tape: what stands at a place, the stretch of a line's writes, and its write list.
-use Rattle.std.specs.Prelude.{ℕ, ◌+◌, ◌-◌, min, ◌≡◌, Bool, true, cond, ◌||◌, not, List, [], ◌∷◌, ◌++◌, eqb, ltb, length, take, drop, replicate}
+-- A tape: what stands at a place, and the stretch of a line's writes.
+use Rattle.std.specs.Prelude.{ℕ, ◌+◌, ◌*◌, ◌-◌, ◌≡◌, Bool, true, cond, ◌||◌, not, List, [], ◌∷◌, eqb, ltb, length, get_or, take, drop}
 use Rattle.std.specs.Borrow.{Bor}
 use Rattle.laws.specs.Numbers.{bad_length, for_list_length, for_version, for_tape_end}
-use Rattle.tape.specs.declared.list.WriteList.{WriteList}
 use Rattle.tape.specs.declared.reading.Place.{Place}
 use Rattle.tape.specs.declared.reading.Place.TheVariants.{Line, Ended, Refused}
-use Rattle.tape.specs.Form.{Form, form_of, clocked}
 
 -- The longest tape that a program takes.
 abbrev pub longest : ℕ
 longest = 65536
 
--- A tape begins with its version byte. Refusal 8: tape empty or version not 1 or 2.
+-- A tape begins with its version byte. Refusal 8: tape empty or version not 1.
 unfoldable pub bad_version : List ℕ → Bool
 bad_version [] = true
-bad_version (version ∷ rest) = not (eqb version 1 || eqb version 2)
+bad_version (version ∷ rest) = not (eqb version 1)
+
+-- How the lines of a version are written: the place of the first line, how many bytes of a line come before its writes, and how
+-- many bytes of writes the line at a place announces.
+pub record Form : Type 0 where
+  pub first : ℕ
+  pub ahead : ℕ
+  pub announced : (tape : List ℕ) (place : ℕ) → ℕ
+
+-- Version 1: after the version byte, for each line a two-byte big-endian length and that many bytes of writes.
+abbrev pub version1 : Form
+version1 = record { first = 1; ahead = 2; announced = λ tape place. 256 * get_or tape place 0 + get_or tape (place + 1) 0 }
 
 -- The line at a place before the tape's end. Refusal 9 for a lone length byte, 4 for a length that no write list has, then 9
 -- where the tape is cut short. The line's end is the next place.
 unfoldable pub line_at : Form → List ℕ → (place : ℕ) → Place
-line_at f tape place =
-    let start = place + f.ahead in
-    let bytes = f.announced tape place in
+line_at form tape place =
+    let start = place + form.ahead in
+    let bytes = form.announced tape place in
     cond (ltb (length tape) start) (Refused for_tape_end)
     (cond (bad_length bytes) (Refused for_list_length)
     (cond (ltb (length tape) (start + bytes)) (Refused for_tape_end) (Line start (start + bytes))))
 
--- What stands at a place. Refusal 9 where the head disagrees with the tape, and for a place before the first line or past the tape's
--- end; at the end, the tape has ended.
-abbrev pub misplaced : Form → List ℕ → (place : ℕ) → Bool
-misplaced f tape place = not (f.agrees tape) || (ltb place f.first || ltb (length tape) place)
-
+-- What stands at a place. Refusal 9 for a place that is 0 or past the tape's end; at the end, the tape has ended.
 unfoldable pub place_at : Form → List ℕ → (place : ℕ) → Place
-place_at f tape place = cond (misplaced f tape place) (Refused for_tape_end) (cond (eqb place (length tape)) Ended (line_at f tape place))
+place_at form tape place =
+    cond (ltb place form.first || ltb (length tape) place) (Refused for_tape_end)
+    (cond (eqb place (length tape)) Ended (line_at form tape place))
 
--- Reading at a place, once over both versions: 8, then 9 for the head, the place or a lone length byte, then 4, then 9.
+-- Reading at a place: 8, then 9 for the place or a lone length byte, then 4, then 9.
 unfoldable pub read_at : List ℕ → (place : ℕ) → Place
-read_at tape place = cond (bad_version tape) (Refused for_version) (place_at (form_of tape) tape place)
-
--- The place of a tape's first line: 5 for a version byte 2, otherwise 1.
-abbrev pub first_place : List ℕ → ℕ
-first_place tape = (form_of tape).first
+read_at tape place = cond (bad_version tape) (Refused for_version) (place_at version1 tape place)
 
 -- The stretch of the tape that a reading names; empty where it names none.
 abbrev pub stretch_of : List ℕ → Place → List ℕ
@@ -62,21 +65,6 @@ start_at tape place = start_of (read_at tape place)
 
 abbrev pub PartFrom : (index : ℕ) (whole part : Bor (List ℕ)) → Type 0
 PartFrom index whole part = part.ref_ptr ≡ (whole.ref_ptr.0, index + whole.ref_ptr.1)
-
--- The write list of the line at a place: its writes, with their clocks. In version 2 these are sums, which may be of any size.
-unfoldable pub list_at : List ℕ → (place : ℕ) → List ℕ
-list_at tape place = clocked (form_of tape) 0 (stretch_at tape place)
-
--- A write list in bytes: a clock that no byte holds is 255, which every check refuses as it would the clock itself.
-unfoldable pub stopped : List ℕ → List ℕ
-stopped [] = []
-stopped (c ∷ []) = c ∷ []
-stopped (c ∷ a ∷ []) = c ∷ a ∷ []
-stopped (c ∷ a ∷ v ∷ rest) = min 255 c ∷ a ∷ v ∷ stopped rest
-
--- A list held in 684 bytes: the list, then zeros.
-unfoldable pub held_in : List ℕ → WriteList
-held_in ws = record { bytes = ws ++ replicate (684 - length ws) 0; length = length ws }
 
 -- The paper's numbers for each case: the case (0 a line, 1 ended, 2 refused), the refusal number (0: not refused), the index of the
 -- record at fault, and the line's start and end, 0 where there is no line. Different answers have different numbers (`same_place`).

@@ -9,7 +9,7 @@ use native.Mathlib.Omega.{arith}
 use borrow.Author.Tests.{eq-eqb, ne_eqb, eqb-true, eqb-false}
 use lib.Dec.{eqb}
 use lib.ListN.{length, get_or, drop, drop_of_length-le}
-use Rattle.laws.proofs.Left.{record_at_lem}
+use lib.Seq.{drop-cons}
 use Rattle.laws.proofs.Split.{split}
 use Rattle.tia.specs.declared.write.Write.{Write}
 use Rattle.tia.specs.declared.write.Write.TheVariants.{Nothing, Register}
@@ -18,12 +18,21 @@ use Rattle.tia.specs.Cursor.{due_at, passed_by}
 use Rattle.tia.proofs.LineLaws.{writes_of}
 use Rattle.tia.proofs.RisingLaws.{Rising, writes_later, writes_here, writes_none}
 
+-- What is left of a list at an index: the element there, and what is left at the next one.
+pub left_at : (xs : List ℕ) (at next : ℕ) → at + 1 ≡ next → at < length xs → drop at xs ≡ get_or xs at 0 ∷ drop next xs
+left_at xs at next e h = rw (← e, add-one) (drop-cons xs at 0 h)
+
 -- The records left at a cursor: the one of the next three bytes and those after it; at the end none.
 pub records_at :
     (ws : List ℕ) (at : ℕ) → at + 2 < length ws →
     records_of (drop at ws) ≡ timed (get_or ws at 0) (get_or ws (at + 1) 0) (get_or ws (at + 2) 0) ∷ records_of (drop (at + 3) ws)
 unfolding records_of
-records_at ws at h = rw (record_at_lem ws at h)
+records_at ws at h =
+    rw (
+      left_at ws at (at + 1) refl (omega arith),
+      left_at ws (at + 1) (at + 2) (omega arith) (omega arith),
+      left_at ws (at + 2) (at + 3) (omega arith) (omega arith),
+    )
 
 pub records_end : (ws : List ℕ) (at : ℕ) → length ws ≤ at → records_of (drop at ws) ≡ []
 unfolding records_of

@@ -144,7 +144,7 @@ pub list_index : (rs : List TimedWrite) → IndexGiven rs (first_fault 0 0 rs).n
 list_index rs =
     let fault = first_fault 0 0 rs in (
       λ other. none_index 0 0 rs (fault_number 0 0 rs ∙ other_none fault.number other),
-      λ i of_record_lem.
+      λ i of-record.
           let exactly = first_bad_exactly rs fault.number i (λ e. omega arith) in
           (λ e. exactly.0 (ap (fault_at fault.number) e), λ first. ap (λ (f : Fault). f.index) (exactly.1 first)),
     )

@@ -10,12 +10,12 @@ use borrow.Author.Tests.{eq-eqb, ne_eqb, lt-ltb, le-ltb, eqb-true}
 use lib.Dec.{eqb, ltb}
 use lib.ListN.{length, get_or, drop, drop_of_length-le}
 use Rattle.laws.proofs.OneToOne.{one_to_one}
-use Rattle.laws.proofs.Left.{left_at}
 use Rattle.tia.specs.declared.first_lit.FirstLit.{FirstLit}
 use Rattle.tia.specs.declared.first_lit.FirstLit.TheVariants.{Column, Unlit, Refused}
 use Rattle.laws.specs.Numbers.{for_buffer_length, for_no_such}
 use Rattle.tia.specs.FirstLit.{shows, first_from, first_lit_of, ColumnAnswer, column_answer}
 use Rattle.tia.specs.LineRows.{DarkBelow, Smallest}
+use Rattle.tia.proofs.CursorLaws.{left_at}
 
 -- Equal numbers mean equal answers.
 column_back : ColumnAnswer → FirstLit

@@ -26,7 +26,7 @@ use Rattle.tia.specs.FirstLit.{shows, first_from, first_lit_of, column_answer, f
 use Rattle.tia.specs.Answers.{bad_state_row, unknown_register_row, refused_clock, given_clock, clock_answer, refused_read_out, given_read_out}
 use Rattle.tia.specs.Line.{Buffers, Rooms, rooms_of}
 use Rattle.tia.specs.Answers.{read_out_answer, line_fault, line_answer, line_buffers}
-use Rattle.tia.specs.LineRows.{OfRecord, IndexGiven, check_rows, line_rows, first_lit_rows}
+use Rattle.tia.specs.LineRows.{OfRecord, IndexGiven, line_rows, first_lit_rows}
 use Rattle.tia.proofs.FirstBadLaws.{list_decided, fault_number, list_index}
 
 -- The state check decides row 1.
@@ -64,66 +64,51 @@ unfolding read_out_answer
 read_out_refused_exactly s =
     rw (read_out_number (bad_state s) s.latches) (in_order (check for_bad_state (bad_state s) (bad_decided s) ∷ []) refl)
 
--- The tests of a list, in their order.
-abbrev pub list_checks : List ℕ → List {1} Check
-list_checks ws =
+-- The tests of a line call, in their order.
+abbrev pub line_checks : State → List ℕ → (room : Rooms) → List {1} Check
+line_checks s ws room =
     let number = (first_fault 0 0 (records_of ws)).number in
-    check for_list_length (bad_length (length ws)) (length_decided (length ws))
+    check for_bad_state (bad_state s) (bad_decided s)
+    ∷ check for_line_clock (not (eqb s.timing.h 0)) (differs s.timing.h 0)
+    ∷ check for_buffer_length (not (eqb room.objects 160)) (differs room.objects 160)
+    ∷ check for_colour_length (not (eqb room.colours 160)) (differs room.colours 160)
+    ∷ check for_list_length (bad_length (length ws)) (length_decided (length ws))
     ∷ check for_clock_over (eqb number for_clock_over) (list_decided (records_of ws) for_clock_over (λ e. omega (arith, e)))
     ∷ check for_clock_order (eqb number for_clock_order) (list_decided (records_of ws) for_clock_order (λ e. omega (arith, e)))
     ∷ check for_unknown_register (eqb number for_unknown_register) (list_decided (records_of ws) for_unknown_register (λ e. omega (arith, e)))
     ∷ []
 
--- The tests of a line call, in their order.
-abbrev pub line_checks : State → List ℕ → (room : Rooms) → List {1} Check
-line_checks s ws room =
-    check for_bad_state (bad_state s) (bad_decided s)
-    ∷ check for_line_clock (not (eqb s.timing.h 0)) (differs s.timing.h 0)
-    ∷ check for_buffer_length (not (eqb room.objects 160)) (differs room.objects 160)
-    ∷ check for_colour_length (not (eqb room.colours 160)) (differs room.colours 160)
-    ∷ list_checks ws
-
-list_by_tests :
-    (list : Bool) (later : Fault) → (cond list (fault_at for_list_length 0) later).number ≡ cond list for_list_length later.number
-list_by_tests true later = refl
-list_by_tests false later = refl
-
-pub list_number : (ws : List ℕ) → (list_fault ws).number ≡ first_of (list_checks ws)
-unfolding list_fault
-list_number ws =
-    list_by_tests (bad_length (length ws)) (first_fault 0 0 (records_of ws))
-    ∙ ap (cond (bad_length (length ws)) for_list_length) (fault_number 0 0 (records_of ws))
-
--- The check of a list refuses by rows 4 and 5 to 7, and nothing else.
-pub list_refused_exactly : (ws : List ℕ) → GivenInOrder (check_rows ws) (list_fault ws).number
-list_refused_exactly ws = rw (list_number ws) (in_order (list_checks ws) refl)
-
 fault_by_tests :
-    (bad clock full colours : Bool) (list : Fault) →
+    (bad clock full colours list : Bool) (later : Fault) →
     (cond bad (fault_at for_bad_state 0)
-    (cond clock (fault_at for_line_clock 0) (cond full (fault_at for_buffer_length 0) (cond colours (fault_at for_colour_length 0) list)))).number
-    ≡ cond bad for_bad_state (cond clock for_line_clock (cond full for_buffer_length (cond colours for_colour_length list.number)))
-fault_by_tests true clock full colours list = refl
-fault_by_tests false true full colours list = refl
-fault_by_tests false false true colours list = refl
-fault_by_tests false false false true list = refl
-fault_by_tests false false false false list = refl
+    (cond clock (fault_at for_line_clock 0)
+    (cond full (fault_at for_buffer_length 0) (cond colours (fault_at for_colour_length 0) (cond list (fault_at for_list_length 0) later))))).number
+    ≡ cond bad for_bad_state
+    (cond clock for_line_clock (cond full for_buffer_length (cond colours for_colour_length (cond list for_list_length later.number))))
+fault_by_tests true clock full colours list later = refl
+fault_by_tests false true full colours list later = refl
+fault_by_tests false false true colours list later = refl
+fault_by_tests false false false true list later = refl
+fault_by_tests false false false false true later = refl
+fault_by_tests false false false false false later = refl
 
 pub line_number : (s : State) (ws : List ℕ) (room : Rooms) → (line_answer s ws room).number ≡ first_of (line_checks s ws room)
-unfolding line_answer line_fault
+unfolding line_answer line_fault list_fault
 line_number s ws room =
     fault_by_tests
     (bad_state s)
     (not (eqb s.timing.h 0))
     (not (eqb room.objects 160))
     (not (eqb room.colours 160))
-    (list_fault ws)
+    (bad_length (length ws))
+    (first_fault 0 0 (records_of ws))
     ∙ ap
     (λ (n : ℕ).
     cond (bad_state s) for_bad_state
     (cond (not (eqb s.timing.h 0)) for_line_clock
-    (cond (not (eqb room.objects 160)) for_buffer_length (cond (not (eqb room.colours 160)) for_colour_length n))))
-    (list_number ws)
+    (cond (not (eqb room.objects 160)) for_buffer_length
+    (cond (not (eqb room.colours 160)) for_colour_length (cond (bad_length (length ws)) for_list_length n)))))
+    (fault_number 0 0 (records_of ws))
 
 -- A line call refuses by rows 1 to 3, 11, 4 and 5 to 7, and nothing else.
 pub line_refused_exactly : (s : State) (ws : List ℕ) (room : Rooms) → GivenInOrder (line_rows s ws room) (line_answer s ws room).number
@@ -133,26 +118,20 @@ line_refused_exactly s ws room = rw (line_number s ws room) (in_order (line_chec
 earlier_index :
     (rs : List TimedWrite) (b : Bool) (n : ℕ) (later : Fault) → (OfRecord n → ⊥) → IndexGiven rs later.number later.index →
     IndexGiven rs (cond b (fault_at n 0) later).number (cond b (fault_at n 0) later).index
-earlier_index rs true n later other given = (λ h. refl, λ i of_record_lem. absurd (other of_record_lem))
+earlier_index rs true n later other given = (λ h. refl, λ i of-record. absurd (other of-record))
 earlier_index rs false n later other given = given
 
--- The index is exactly that of the first bad record with the numbers 5, 6 and 7, and 0 with every other: of a list, and of a line
--- call.
-pub list_index_exactly : (ws : List ℕ) → IndexGiven (records_of ws) (list_fault ws).number (list_fault ws).index
-unfolding list_fault
-list_index_exactly ws =
-    let rs = records_of ws in
-    earlier_index rs (bad_length (length ws)) for_list_length _ (λ of_record_lem. omega arith) (list_index rs)
-
+-- The index is exactly that of the first bad record with the numbers 5, 6 and 7, and 0 with every other.
 pub line_index_exactly :
     (s : State) (ws : List ℕ) (room : Rooms) → IndexGiven (records_of ws) (line_answer s ws room).number (line_answer s ws room).index
-unfolding line_answer line_fault
+unfolding line_answer line_fault list_fault
 line_index_exactly s ws room =
     let rs = records_of ws in
-    earlier_index rs (bad_state s) for_bad_state _ (λ of_record_lem. omega arith)
-    (earlier_index rs (not (eqb s.timing.h 0)) for_line_clock _ (λ of_record_lem. omega arith)
-    (earlier_index rs (not (eqb room.objects 160)) for_buffer_length _ (λ of_record_lem. omega arith)
-    (earlier_index rs (not (eqb room.colours 160)) for_colour_length _ (λ of_record_lem. omega arith) (list_index_exactly ws))))
+    earlier_index rs (bad_state s) for_bad_state _ (λ of-record. omega arith)
+    (earlier_index rs (not (eqb s.timing.h 0)) for_line_clock _ (λ of-record. omega arith)
+    (earlier_index rs (not (eqb room.objects 160)) for_buffer_length _ (λ of-record. omega arith)
+    (earlier_index rs (not (eqb room.colours 160)) for_colour_length _ (λ of-record. omega arith)
+    (earlier_index rs (bad_length (length ws)) for_list_length _ (λ of-record. omega arith) (list_index rs)))))
 
 -- A refused line call hands back the given state and leaves both buffers.
 pub refused_line_state :

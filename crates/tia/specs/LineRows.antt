@@ -52,13 +52,9 @@ call_rows s room =
 abbrev pub list_rows : List ℕ → List {1} Row
 list_rows ws = list_row for_clock_over ws ∷ list_row for_clock_order ws ∷ list_row for_unknown_register ws ∷ []
 
--- The rows of the check of a list: 4, then 5 to 7.
-abbrev pub check_rows : List ℕ → List {1} Row
-check_rows ws = row for_list_length (BadLength (length ws)) ∷ list_rows ws
-
 -- The rows of a line call in their order: 1 to 3, 11, 4, 5 to 7.
 abbrev pub line_rows : State → List ℕ → Rooms → List {1} Row
-line_rows s ws room = call_rows s room ++ check_rows ws
+line_rows s ws room = call_rows s room ++ (row for_list_length (BadLength (length ws)) ∷ list_rows ws)
 
 -- Rows 3 and 10 for the first lit column.
 abbrev pub first_lit_rows : List ℕ → (object : ℕ) → List {1} Row

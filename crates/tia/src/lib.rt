@@ -1,5 +1,4 @@
-// The kit's TIA: the chip's state, one colour clock, a line and the check of its write list, the collision read-out, and the first
-// lit column.
+// The kit's TIA: the chip's state, one colour clock, a line, the collision read-out, and the first lit column.
 mod answers;
 mod choose;
 mod clock;
@@ -30,4 +29,3 @@ pub use registers::{Enable, Graphic, Nusiz, Registers};
 pub use state::{Objects, State};
 pub use timing::Timing;
 pub use write::Write;
-pub use write_list::{Fault, list_fault};

@@ -11,9 +11,9 @@ const LONGEST: usize = 684;
 
 // A refusal (0: none), and the index of the record at fault.
 #[derive(Drop)]
-pub struct Fault {
-    pub number: u8,
-    pub index: u8,
+pub(crate) struct Fault {
+    pub(crate) number: u8,
+    pub(crate) index: u8,
 }
 
 // The refusal of a record whose clock must not be below the least; 0, none.
@@ -59,9 +59,8 @@ fn first_fault(writes: &[u8]) -> Fault
     none
 }
 
-// The fault of a list alone, as a line call finds it: its length (4), then record by record a clock over 227 (5), one not above
-// the one before (6), an unknown register (7).
-pub fn list_fault(writes: &[u8]) -> Fault
+// The fault of a list: its length (4), then the first bad record (5, 6, 7).
+pub(crate) fn list_fault(writes: &[u8]) -> Fault
     ensures { result ≡ list_fault writes.now }
 {
     let length = writes.len();

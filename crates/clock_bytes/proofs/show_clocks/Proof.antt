@@ -3,7 +3,6 @@ use borrow.Author.Rules.{rules}
 use Prim.Native.Nat.{◌≤◌, ◌-◌}
 use mathlib.Core.Path.{◌≡◌, refl}
 use lib.ListN.{length}
-use Rattle.tape.proofs.ListLaws.{held_within, held_list}
 use Rattle.replay.proofs.ReplayLaws.{enough}
 use Rattle.clock_bytes.proofs.ShowLaws.{Passed, passed_none, records_played, passed_more}
 use Rattle.clock_bytes.proofs.show_clocks.Statement.{statement}
@@ -21,8 +20,7 @@ start-requires c κs = search rules
 
 loop-holds : tie.Need-loop-init invariant-loop decreases-loop
 loop-holds c =
-    let start = c.before.before.before.before in
-    (search rules, refl, refl, rw (c.before.start.ensures, c.first-place.ensures) (passed_none start.args.tape.now (search rules)))
+    (search rules, refl, refl, rw c.start.ensures (passed_none c.before.before.before.args.tape.now (search rules)))
 
 slice-aggregate-play-line : tie.Need-slice-aggregate-play-line invariant-loop decreases-loop
 slice-aggregate-play-line c = search rules
@@ -39,24 +37,17 @@ enum-known-verdict c = search rules
 returns : tie.Need-returns invariant-loop decreases-loop
 returns c = search rules
 
-sub-show-line : tie.Need-overflow-sub-show-line invariant-loop decreases-loop
-sub-show-line c = search rules
-
-part-show-line-start : tie.Need-slice-bounds-show-line-start invariant-loop decreases-loop
-part-show-line-start c = search rules
-
-part-show-line-end : tie.Need-slice-bounds-show-line-end invariant-loop decreases-loop
-part-show-line-end c = held_within _ _ c.before.before.list_at.ensures
+stretch-at-requires : tie.Need-stretch-at-requires invariant-loop decreases-loop
+stretch-at-requires c κs = search rules
 
 show-line-requires : tie.Need-show-line-requires invariant-loop decreases-loop
 show-line-requires c κs =
-    let listed = c.before.before.before in
-    let told = listed.before.before.before in
+    let told = c.before.before.before in
     let played = told.before.before.before.before in
     let turn = played.before.before.before in
-    let start = turn.before.before.before.before.before.before in
+    let start = turn.before.before.before.before.before in
     let inv = turn.before.loop.invariant in
-    rw (← start.requires.1, ← listed.before.if1.true)
+    rw (c.stretch-at.ensures.0, ← start.requires.1, ← c.before.if1.true)
     (records_played
     _
     _
@@ -71,9 +62,7 @@ show-line-requires c κs =
     inv.2
     inv.3
     played.play_line.ensures
-    told.verdict.given.1
-    _
-    (held_list listed.list_at.result _ listed.list_at.ensures))
+    told.verdict.given.1)
 
 returns-2 : tie.Need-returns-2 invariant-loop decreases-loop
 returns-2 c = search rules
@@ -120,17 +109,13 @@ show-clocks-spec =
     invariant-loop
     decreases-loop
     start-requires
-    (λ c κs. tt)
     loop-holds
     slice-aggregate-play-line
     slice-aggregate-play-line-2
     play-line-requires
     enum-known-verdict
     returns
-    (λ c κs. tt)
-    sub-show-line
-    part-show-line-start
-    part-show-line-end
+    stretch-at-requires
     show-line-requires
     returns-2
     add_step

@@ -18,9 +18,7 @@ abbrev decreases-loop : tie.decreases-loop
 decreases-loop tape bytes₀ colours₀ state₀ place₀ step₀ bytes colours state place step = enough - step
 
 loop-holds : tie.Need-loop-init invariant-loop decreases-loop
-loop-holds c =
-    let start = c.before.before.before in
-    (search rules, refl, refl, rw (c.before.start.ensures, c.first-place.ensures) (shown_none start.args.tape.now _ (search rules)))
+loop-holds c = (search rules, refl, refl, rw c.start.ensures (shown_none c.before.before.args.tape.now _ (search rules)))
 
 slice-aggregate-play-line : tie.Need-slice-aggregate-play-line invariant-loop decreases-loop
 slice-aggregate-play-line c = search rules
@@ -76,7 +74,6 @@ show-lines-spec =
     (tie.spec
     invariant-loop
     decreases-loop
-    (λ c κs. tt)
     (λ c κs. tt)
     loop-holds
     slice-aggregate-play-line

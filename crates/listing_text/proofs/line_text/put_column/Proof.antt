@@ -1,5 +1,5 @@
 -- `put_column` meets its contract.
-use Rattle.laws.proofs.Puts.{put_none}
+use Rattle.listing_text.proofs.PutLaws.{put_none}
 use Rattle.listing_text.proofs.LineTextLaws.{found_text}
 use borrow.Author.Rules.{rules}
 use Rattle.listing_text.proofs.line_text.put_column.Statement.{statement}

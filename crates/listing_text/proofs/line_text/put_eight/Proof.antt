@@ -3,7 +3,7 @@ use mathlib.Core.Path.{◌≡◌}
 use borrow.Author.Rules.{rules}
 use native.Mathlib.Omega.{arith}
 use Prim.Native.Nat.{◌+◌, ◌*◌, ◌-◌, ◌≤◌}
-use Rattle.laws.specs.Room.{Put}
+use Rattle.listing_text.specs.Room.{Put}
 use Rattle.listing_text.specs.Text.{hex_byte, spaced}
 use lib.ListN.{get_or}
 use Rattle.listing_text.proofs.PutLaws.{spaced_none, spaced_more}

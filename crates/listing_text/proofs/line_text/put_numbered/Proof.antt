@@ -1,5 +1,5 @@
 -- `put_numbered` meets its contract.
-use Rattle.laws.proofs.Puts.{put_then}
+use Rattle.listing_text.proofs.PutLaws.{put_then}
 use borrow.Author.Rules.{rules}
 use Rattle.listing_text.proofs.line_text.put_numbered.Statement.{statement}
 use Rattle.listing_text.proofs.line_text.put_numbered.Tie as tie

@@ -1,6 +1,6 @@
 -- `refused_text` meets its contract.
 use Rattle.listing_text.specs.LineText.{refused_text}
-use Rattle.laws.proofs.Puts.{put_then}
+use Rattle.listing_text.proofs.PutLaws.{put_then}
 use borrow.Author.Rules.{rules}
 use Rattle.listing_text.proofs.line_text.refused_text.Statement.{statement}
 use Rattle.listing_text.proofs.line_text.refused_text.Tie as tie

@@ -1,6 +1,6 @@
 -- `row_text` meets its contract.
 use Rattle.listing_text.specs.LineText.{row_text}
-use Rattle.laws.proofs.Puts.{put_then}
+use Rattle.listing_text.proofs.PutLaws.{put_then}
 use borrow.Author.Rules.{rules}
 use Rattle.listing_text.proofs.line_text.row_text.Statement.{statement}
 use Rattle.listing_text.proofs.line_text.row_text.Tie as tie

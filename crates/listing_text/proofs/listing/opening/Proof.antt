@@ -11,11 +11,11 @@ returns c =
 
 returns-2 : tie.Need-returns-2
 returns-2 c =
-    let tested = c.before.before.before in
+    let tested = c.before.before in
     let start = tested.before in
-    opens start.before.before.args.tape.now _ start.start.ensures _ c.first-place.ensures tested.if1.false c.before.heading-text.ensures
+    opens start.before.before.args.tape.now _ start.start.ensures tested.if1.false c.heading-text.ensures
 
 pub opening-spec : {M : Type 1} → statement M
 opening-spec =
     tie.close
-    (tie.spec (λ c κs. tt) (λ c κs. tt) returns (λ c κs. tt) (λ c κs. tt) returns-2)
+    (tie.spec (λ c κs. tt) (λ c κs. tt) returns (λ c κs. tt) returns-2)

@@ -4,8 +4,7 @@ use borrow.Author.Rules.{rules}
 use native.Mathlib.Omega.{arith}
 use borrow.Fn.Kinds.{In}
 use borrow.Fn.PlainCycle.{Measures, is, falls, and}
-use Rattle.laws.proofs.Puts.{put_none, put_then}
-use Rattle.listing_text.proofs.PutLaws.{no_digits, one_digit, more_digits}
+use Rattle.listing_text.proofs.PutLaws.{put_none, put_then, no_digits, one_digit, more_digits}
 use Rattle.listing_text.proofs.put.put_decimal.Reads as put-decimal
 use Rattle.listing_text.proofs.put.put_decimal.Kinds as put-decimal-kinds
 use Rattle.listing_text.proofs.put.+put_decimal.Lts-put_decimal as put-decimal-lts

@@ -2,8 +2,8 @@
 use borrow.Author.Rules.{rules}
 use Prim.Native.Nat.{◌-◌, ◌≤◌}
 use lib.ListN.{length, take}
-use Rattle.laws.specs.Room.{Put}
-use Rattle.laws.proofs.Puts.{put_none, put_below, put_more, put_all}
+use Rattle.listing_text.specs.Room.{Put}
+use Rattle.listing_text.proofs.PutLaws.{put_none, put_below, put_more, put_all}
 use Rattle.listing_text.proofs.put.put_bytes.Statement.{statement}
 use Rattle.listing_text.proofs.put.put_bytes.Tie as tie
 

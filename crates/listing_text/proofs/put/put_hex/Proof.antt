@@ -1,5 +1,5 @@
 -- `put_hex` meets its contract.
-use Rattle.laws.proofs.Puts.{put_then}
+use Rattle.listing_text.proofs.PutLaws.{put_then}
 use borrow.Author.Rules.{rules}
 use Rattle.listing_text.proofs.put.put_hex.Statement.{statement}
 use Rattle.listing_text.proofs.put.put_hex.Tie as tie

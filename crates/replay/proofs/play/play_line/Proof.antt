@@ -1,5 +1,4 @@
 -- `play_line` meets its contract.
-use Rattle.tape.proofs.ListLaws.{held_within, held_list}
 use Rattle.tape.proofs.ReadingLaws.{same_place}
 use Rattle.replay.proofs.PlayLaws.{play_line, play_ended, play_refused}
 use borrow.Author.Rules.{rules}
@@ -8,15 +7,6 @@ use Rattle.replay.proofs.play.play_line.Tie as tie
 
 enum-known-found : tie.Need-enum-known-found
 enum-known-found c = search rules
-
-sub-line : tie.Need-overflow-sub-line
-sub-line c = search rules
-
-part-line-start : tie.Need-slice-bounds-line-start
-part-line-start c = search rules
-
-part-line-end : tie.Need-slice-bounds-line-end
-part-line-end c = held_within _ _ c.before.before.list_at.ensures
 
 enum_told : tie.Need-enum-told
 enum_told c = search rules
@@ -33,8 +23,8 @@ same-length-2 c = search rules
 returns : tie.Need-returns
 returns c =
     let lined = c.before.before.before.before.before.before in
-    let listed = lined.before.before.before.before.before.before in
-    let told = listed.before.before in
+    let stretched = lined.before.before.before in
+    let told = stretched.before.before in
     let read = told.before.before.read_at in
     play_line
     _
@@ -47,7 +37,7 @@ returns c =
     _
     told.found.given.1
     _
-    (held_list listed.list_at.result _ listed.list_at.ensures)
+    stretched.stretch-at.ensures.0
     _
     _
     lined.line.ensures
@@ -71,9 +61,6 @@ play-line-spec =
     (λ c κs. tt)
     enum-known-found
     (λ c κs. tt)
-    sub-line
-    part-line-start
-    part-line-end
     (λ c κs. tt)
     (λ c κs. tt)
     enum_told

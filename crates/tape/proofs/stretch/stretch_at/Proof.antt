@@ -8,7 +8,6 @@ use denote.Enum.Declared
 use types.Run.{OneOf, miss}
 use Rattle.tape.specs.declared.reading.Place.{Place}
 use Rattle.tape.specs.declared.reading.Place.TheVariants.{Line, Ended, Refused}
-use Rattle.tape.specs.Form.{form_of}
 use Rattle.tape.specs.Reading.{read_at, stretch_of, stretch_at, start_of, start_at}
 use Rattle.tape.specs.ReadingRows.{LineThere}
 use Rattle.tape.proofs.ReadingLaws.{same_place, line_there}
@@ -42,7 +41,7 @@ module _ (tape : List ℕ) (place : ℕ) (found : Place) (e : found ≡ read_at 
 
 there :
     (tape : List ℕ) (place : ℕ) {found : Place} → found ≡ read_at tape place → (start end : ℕ) → found ≡ Line start end →
-    LineThere (form_of tape) tape place start end
+    LineThere tape place start end
 there tape place e start end line = line_there tape place start end (sym e ∙ line)
 
 read-at-requires : tie.Need-read-at-requires

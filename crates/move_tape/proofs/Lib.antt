@@ -1,3 +1,0 @@
--- Laws of the move to the other version.
-pub mod ListingLaws
-pub mod OtherLaws

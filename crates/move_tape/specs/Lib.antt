@@ -1,2 +1,0 @@
--- The move of a tape to the other version.
-pub mod MoveTape
