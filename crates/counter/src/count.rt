@@ -4,7 +4,7 @@ ghost use Rattle.counter.specs.Count.{value_of};
 ghost use Rattle.counter.specs.Answers.{found_answer, value_answer, count_answer};
 
 // A value or a count, or refusal 10.
-#[derive(Drop)]
+#[derive(Clone, Copy)]
 pub enum Found {
     Is(u8),
     Refused,

@@ -6,13 +6,13 @@ ghost use Rattle.counter.specs.Answers.{step_answer, horizontal_answer, position
 use crate::step::{ONES, wrap_step};
 
 // The horizontal counter.
-#[derive(Drop)]
+#[derive(Clone, Copy)]
 pub struct Horizontal {
     pub value: u8,
 }
 
 // The horizontal counter after a step, or refusal 10.
-#[derive(Drop)]
+#[derive(Clone, Copy)]
 pub enum HorizontalStep {
     To(Horizontal),
     Refused,
@@ -27,7 +27,7 @@ impl Horizontal {
 
     // The counter at power-up.
     pub fn new() -> Self
-        ensures* { do ⌜ PowerUp horizontal (← (⟦Horizontal::PERIOD⟧).entry) (← (⟦Horizontal::WRAP⟧).entry) (← (⟦Horizontal::POWER_UP⟧).entry) result.value ⌝ }
+        ensures { PowerUp horizontal Horizontal.PERIOD Horizontal.WRAP Horizontal.POWER_UP result.value }
     {
         Horizontal {
             value: Horizontal::POWER_UP,
@@ -49,13 +49,13 @@ impl Horizontal {
 }
 
 // The position counter.
-#[derive(Drop)]
+#[derive(Clone, Copy)]
 pub struct Position {
     pub value: u8,
 }
 
 // The position counter after a step, or refusal 10.
-#[derive(Drop)]
+#[derive(Clone, Copy)]
 pub enum PositionStep {
     To(Position),
     Refused,
@@ -70,7 +70,7 @@ impl Position {
 
     // The counter at power-up.
     pub fn new() -> Self
-        ensures* { do ⌜ PowerUp position (← (⟦Position::PERIOD⟧).entry) (← (⟦Position::WRAP⟧).entry) (← (⟦Position::POWER_UP⟧).entry) result.value ⌝ }
+        ensures { PowerUp position Position.PERIOD Position.WRAP Position.POWER_UP result.value }
     {
         Position {
             value: Position::POWER_UP,

@@ -1,4 +1,6 @@
 // The six-bit counter of document 01: its two kinds and their steps, and counts and values by the classroom card.
+#![tactic(auto)]
+
 mod count;
 mod kind;
 mod step;

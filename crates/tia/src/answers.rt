@@ -8,7 +8,7 @@ use crate::state::State;
 use crate::write::Write;
 
 // The answer of a clock: refusal number (0: accepted), index of the record at fault, next state, answer byte and colour.
-#[derive(Drop)]
+#[derive(Clone, Copy)]
 pub struct ClockAnswer {
     pub number: u8,
     pub index: u8,
@@ -18,7 +18,7 @@ pub struct ClockAnswer {
 }
 
 // The answer of the read-out: refusal number (0: accepted), index of the record at fault, eight bytes.
-#[derive(Drop)]
+#[derive(Clone, Copy)]
 pub struct ReadOut {
     pub number: u8,
     pub index: u8,

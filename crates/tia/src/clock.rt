@@ -9,7 +9,7 @@ use crate::timing::Tick;
 use crate::write::{HMM0, HMM1, HMP0, HMP1, RESM0, RESM1, RESP0, RESP1, Write};
 
 // The next state, the answer byte and the colour of a clock.
-#[derive(Drop)]
+#[derive(Clone, Copy)]
 pub(crate) struct Clocked {
     pub(crate) state: State,
     pub(crate) byte: u8,

@@ -11,7 +11,7 @@ use crate::write::{COLUBK, COLUP0, COLUP1, COLUPF, Write};
 const RIGHT_HALF: u8 = 80;
 
 // The colours of P0 and M0, of P1 and M1, of ball and playfield, and of the background.
-#[derive(Drop)]
+#[derive(Clone, Copy)]
 pub struct Colours {
     pub colup0: u8,
     pub colup1: u8,

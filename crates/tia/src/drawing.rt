@@ -18,7 +18,7 @@ const DRAWING_AGE: u8 = 5;
 const STRETCHED_DRAWING_AGE: u8 = 6;
 
 // The pixel shown, 0 to 7, or 8 for none, and the clocks it has been shown.
-#[derive(Drop)]
+#[derive(Clone, Copy)]
 pub struct Drawing {
     pub pixel: u8,
     pub shown: u8,

@@ -7,7 +7,7 @@ use crate::line_call::LINE_BYTES;
 use crate::refusal::{BUFFER_LENGTH, NO_SUCH_OBJECT};
 
 // The answer: a column, none, or a refusal with its number.
-#[derive(Drop)]
+#[derive(Clone, Copy)]
 pub enum FirstLit {
     Column(u8),
     Unlit,

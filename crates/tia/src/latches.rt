@@ -7,7 +7,7 @@ use crate::lit::{Lit, weight_of};
 use crate::write::{CXCLR, Write};
 
 // A latch for each pair of objects, in the order of the read-out.
-#[derive(Drop)]
+#[derive(Clone, Copy)]
 pub struct Latches {
     pub m0p1: bool,
     pub m0p0: bool,

@@ -1,4 +1,6 @@
 // The kit's TIA: the chip's state, one colour clock, a line, the collision read-out, and the first lit column.
+#![tactic(auto)]
+
 mod answers;
 mod choose;
 mod clock;

@@ -16,7 +16,7 @@ use crate::write_list::{Fault, list_fault};
 pub(crate) const LINE_BYTES: usize = 160;
 
 // The answer of a line: refusal number (0: accepted), index of the record at fault, next state.
-#[derive(Drop)]
+#[derive(Clone, Copy)]
 pub struct LineAnswer {
     pub number: u8,
     pub index: u8,

@@ -17,7 +17,7 @@ const IN_BLANK: u8 = 128;
 const BLANK_COLUMN: u8 = 64;
 
 // The objects and the playfield, each lit or not.
-#[derive(Drop)]
+#[derive(Clone, Copy)]
 pub(crate) struct Lit {
     pub(crate) p0: bool,
     pub(crate) p1: bool,

@@ -20,7 +20,7 @@ const LAST_SLOT: u8 = 15;
 pub(crate) const NOT_DRAWN: u8 = 64;
 
 // P0, P1, M0, M1 or BL: its position, its age (pulses since its last start), its motion value and live flag.
-#[derive(Drop)]
+#[derive(Clone, Copy)]
 pub struct Object {
     pub position: u8,
     pub age: u8,
@@ -29,7 +29,7 @@ pub struct Object {
 }
 
 // A player: the object, its copy's size at the start, and the copy's drawing.
-#[derive(Drop)]
+#[derive(Clone, Copy)]
 pub struct Player {
     pub body: Object,
     pub size: u8,
@@ -37,7 +37,7 @@ pub struct Player {
 }
 
 // An object after a clock, whether it was pulsed, and whether a copy started.
-#[derive(Drop)]
+#[derive(Clone, Copy)]
 pub(crate) struct Moved {
     pub(crate) object: Object,
     pub(crate) pulsed: bool,

@@ -7,7 +7,7 @@ use crate::choose::{bit, byte};
 use crate::write::{CTRLPF, PF0, PF1, PF2, Write};
 
 // CTRLPF, PF0's upper half byte, PF1 and PF2.
-#[derive(Drop)]
+#[derive(Clone, Copy)]
 pub struct Playfield {
     pub ctrlpf: u8,
     pub pf0: u8,

@@ -9,7 +9,7 @@ use crate::write::{
 };
 
 // NUSIZ: the copies of a player and its missile, and the missile's width code.
-#[derive(Drop)]
+#[derive(Clone, Copy)]
 pub struct Nusiz {
     pub copies: u8,
     pub width: u8,
@@ -29,7 +29,7 @@ impl Nusiz {
 }
 
 // A player's graphic: reflected (REFP), its new and old byte (GRP), whether the old one is shown (VDELP).
-#[derive(Drop)]
+#[derive(Clone, Copy)]
 pub struct Graphic {
     pub reflected: bool,
     pub new: u8,
@@ -53,7 +53,7 @@ impl Graphic {
 }
 
 // The ball's enable: the new and the old one (ENABL), whether the old one counts (VDELBL).
-#[derive(Drop)]
+#[derive(Clone, Copy)]
 pub struct Enable {
     pub new: bool,
     pub old: bool,
@@ -75,7 +75,7 @@ impl Enable {
 }
 
 // The registers that draw.
-#[derive(Drop)]
+#[derive(Clone, Copy)]
 pub struct Registers {
     pub nusiz0: Nusiz,
     pub nusiz1: Nusiz,

@@ -12,7 +12,7 @@ use crate::registers::{Enable, Graphic, Nusiz, Registers};
 use crate::timing::{LAST_CLOCK, NO_MOTION, Timing};
 
 // The five movable objects.
-#[derive(Drop)]
+#[derive(Clone, Copy)]
 pub struct Objects {
     pub p0: Player,
     pub p1: Player,
@@ -22,7 +22,7 @@ pub struct Objects {
 }
 
 // The whole state of the chip.
-#[derive(Drop)]
+#[derive(Clone, Copy)]
 pub struct State {
     pub timing: Timing,
     pub objects: Objects,

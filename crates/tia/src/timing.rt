@@ -18,7 +18,7 @@ const LATE_BLANK: u8 = 76;
 pub(crate) const NO_MOTION: u8 = 16;
 
 // The line clock h, the motion slot, and the late flag: HMOVE was written in this line's horizontal blank.
-#[derive(Drop)]
+#[derive(Clone, Copy)]
 pub struct Timing {
     pub h: u8,
     pub slot: u8,
@@ -26,7 +26,7 @@ pub struct Timing {
 }
 
 // What a clock does to every object: the motion slot, whether it is compared, and whether the clock is blank.
-#[derive(Drop)]
+#[derive(Clone, Copy)]
 pub(crate) struct Tick {
     pub(crate) slot: u8,
     pub(crate) comparing: bool,

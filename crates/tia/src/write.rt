@@ -72,7 +72,7 @@ pub(crate) const HMCLR: u8 = 0x2B;
 pub(crate) const CXCLR: u8 = 0x2C;
 
 // What is written on a clock: nothing, or a value to a register's address.
-#[derive(Drop)]
+#[derive(Clone, Copy)]
 pub enum Write {
     Nothing,
     Register { address: u8, value: u8 },

@@ -10,7 +10,7 @@ use crate::write::is_known;
 const LONGEST: usize = 684;
 
 // A refusal (0: none), and the index of the record at fault.
-#[derive(Drop)]
+#[derive(Clone, Copy)]
 pub(crate) struct Fault {
     pub(crate) number: u8,
     pub(crate) index: u8,

@@ -1,0 +1,12 @@
+-- `Horizontal::step` meets its contract: refused over 63, else the step of its kind.
+use mathlib.Core.Path.{◌∙◌, sym, ap}
+use Rattle.counter.specs.Answers.{given}
+use Rattle.counter.specs.Kind.{horizontal}
+use Rattle.counter.proofs.AnswerLaws.{step_given, step_refused}
+use Rattle.counter.proofs.kind.Horizontal.step.Goals as goal
+
+pub returns-then-value-gt-ONES : goal.returns-then-value-gt-ONES
+returns-then-value-gt-ONES c = sym (step_refused horizontal _ c.if-value-gt-ONES.true)
+
+pub returns : goal.returns
+returns c = ap given c.wrap_step.ensures ∙ sym (step_given horizontal _ c.if-value-gt-ONES.false)
