@@ -1,4 +1,6 @@
 // The printed lines of a tape's listing, as bytes.
+#![tactic(auto)]
+
 mod line_text;
 mod listing;
 mod put;

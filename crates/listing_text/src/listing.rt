@@ -7,14 +7,14 @@ use replay::Verdict;
 use tia::State;
 
 // What the listing goes on with: the tape's line at a place, or nothing.
-#[derive(Drop)]
+#[derive(Clone, Copy)]
 pub enum Next {
     Line(usize),
     Done,
 }
 
 // A step of the listing: what comes next, the state before it, and the printed line: the first `length` bytes of the room.
-#[derive(Drop)]
+#[derive(Clone, Copy)]
 pub struct Printed {
     pub next: Next,
     pub state: State,

@@ -1,4 +1,6 @@
 // Playing a tape on the chip, line by line.
+#![tactic(auto)]
+
 mod play;
 
 pub use play::{PlayAnswer, Verdict, play_line};

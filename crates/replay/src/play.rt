@@ -8,7 +8,7 @@ use tia::State;
 
 // What became of it: a line was played, with the next place; the tape has ended; or a refusal, with the index of the record at
 // fault.
-#[derive(Drop)]
+#[derive(Clone, Copy)]
 pub enum Verdict {
     Played(usize),
     Ended,
@@ -16,7 +16,7 @@ pub enum Verdict {
 }
 
 // The answer: the verdict, and the next state.
-#[derive(Drop)]
+#[derive(Clone, Copy)]
 pub struct PlayAnswer {
     pub verdict: Verdict,
     pub state: State,

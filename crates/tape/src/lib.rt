@@ -1,4 +1,6 @@
 // Tapes: reading at a place, and the stretch of the tape that holds a line's writes.
+#![tactic(auto)]
+
 mod reading;
 mod refusal;
 mod stretch;

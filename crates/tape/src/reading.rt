@@ -23,7 +23,7 @@ const LONGEST: usize = 684;
 
 // What stands at a place: a line, whose writes are the bytes from start up to end, which is the next place; the tape's end;
 // or a refusal with its number.
-#[derive(Drop)]
+#[derive(Clone, Copy)]
 pub enum Place {
     Line { start: usize, end: usize },
     Ended,
