@@ -1,4 +1,6 @@
 // Writes the bytes of the two classroom cards: the counter's 63 values, then the 256 mirrored bytes.
+#![tactic(auto)]
+
 ghost use Rattle.std.specs.Prelude.{◌≡◌, ◌++◌};
 ghost use Rattle.counter.specs.Count.{card};
 ghost use Rattle.counter.specs.Answers.{value_answer};
@@ -6,7 +8,7 @@ ghost use Rattle.mirror.specs.Mirror.{mirrored_bytes};
 ghost use Rattle.card_bytes.specs.CardBytes.{card_bytes};
 
 use counter::Found;
-use libc::STDOUT_FILENO;
+use std::io::{self, Print};
 
 // The entries of the counter's card.
 const COUNTS: usize = 63;
@@ -48,14 +50,14 @@ fn mirror_card() -> [u8; BYTES]
 }
 
 // Writes both cards, one after the other.
-fn emit(values: &[u8], bytes: &[u8])
+fn emit(rt: &impl Print, values: &[u8], bytes: &[u8]) -> io::Result<()>
     requires { values.now ++ bytes.now ≡ card_bytes }
 {
-    io::write_all(STDOUT_FILENO, values);
-    io::write_all(STDOUT_FILENO, bytes);
+    rt.write_all(values)?;
+    rt.write_all(bytes)
 }
 
 // Fills both cards and writes them.
-fn main() {
-    emit(&counter_card(), &mirror_card());
+fn main(rt: HostRuntime) -> io::Result<()> {
+    emit(&rt, &counter_card(), &mirror_card())
 }

@@ -1,5 +1,7 @@
 // Prints the chip's answers to the cases on standard input: single clocks, walks of clocks, line calls, runs of line
 // calls, and lines of tapes.
+#![tactic(auto)]
+
 mod call;
 mod digest;
 mod line;
@@ -10,42 +12,50 @@ mod state_bytes;
 mod tape_line;
 mod walk;
 
-use libc::STDIN_FILENO;
+use std::io::{self, Print, Read};
 
 // The most cases that are answered.
 const MOST: u32 = 1000000;
 
 // The row of a case by its kind: its number among all cases, then its answer. Whether there is such a kind.
-fn row(kind: u8, number: u32, record: &[u8; 73]) -> bool {
+fn row(
+    rt: &impl Print,
+    reader: &mut impl Read,
+    kind: u8,
+    number: u32,
+    record: &[u8; 73],
+) -> io::Result<bool> {
     match kind {
-        0 => single::row(number, record),
-        1 => walk::row(number, record),
-        2 => line::row(number, record),
-        3 => run::row(number, record),
-        4 => tape_line::row(number, record),
-        _ => return false,
+        0 => single::row(rt, number, record)?,
+        1 => walk::row(rt, reader, number, record)?,
+        2 => line::row(rt, reader, number, record)?,
+        3 => run::row(rt, reader, number, record)?,
+        4 => tape_line::row(rt, reader, number, record)?,
+        _ => return Ok(false),
     }
-    true
+    Ok(true)
 }
 
 // The row of the next case. Whether there was one: not at the end of standard input, nor at an unknown kind.
-fn next(number: u32) -> bool {
+fn next(rt: &impl Print, reader: &mut impl Read, number: u32) -> io::Result<bool> {
     let mut kind = [0u8; 1];
     let mut record = [0u8; 73];
-    if io::read_full(STDIN_FILENO, &mut kind) < 1 {
-        return false;
+    if input::read_full(reader, &mut kind)? < 1 {
+        return Ok(false);
     }
-    if io::read_full(STDIN_FILENO, &mut record) < 73 {
-        return false;
+    if input::read_full(reader, &mut record)? < 73 {
+        return Ok(false);
     }
-    row(kind[0], number, &record)
+    row(rt, reader, kind[0], number, &record)
 }
 
 // A row for each case.
-fn main() {
+fn main(rt: HostRuntime) -> io::Result<()> {
+    let mut reader = rt.reader();
     for number in 0..MOST {
-        if !next(number) {
-            return;
+        if !next(&rt, &mut reader, number)? {
+            return Ok(());
         }
     }
+    Ok(())
 }

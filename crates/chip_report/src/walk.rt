@@ -2,14 +2,14 @@
 use crate::digest::{with_byte, with_bytes};
 use crate::output::{heading, hex, text};
 use crate::state_bytes::{bytes_of, state_from};
-use libc::STDIN_FILENO;
+use std::io::{self, Print, Read};
 use tia::{ClockAnswer, State, Write};
 
 // How many writes a walk has, three bytes each: wait, address, value.
 const WRITES: usize = 64;
 
 // The next write of a walk, and how many clocks come before it.
-#[derive(Drop)]
+#[derive(Clone, Copy)]
 struct Cursor {
     next: usize,
     wait: u8,
@@ -90,10 +90,15 @@ fn digest_of(start: State, writes: &[u8; 192]) -> u32 {
 }
 
 // The row of a walk: its number and its digest. Its writes follow its record.
-pub(crate) fn row(n: u32, record: &[u8; 73]) {
+pub(crate) fn row(
+    rt: &impl Print,
+    reader: &mut impl Read,
+    n: u32,
+    record: &[u8; 73],
+) -> io::Result<()> {
     let mut writes = [0u8; 192];
-    io::read_full(STDIN_FILENO, &mut writes);
-    heading(b"walk ", n);
-    hex(digest_of(state_from(record), &writes));
-    text(b"\n");
+    input::read_full(reader, &mut writes)?;
+    heading(rt, b"walk ", n)?;
+    hex(rt, digest_of(state_from(record), &writes))?;
+    text(rt, b"\n")
 }

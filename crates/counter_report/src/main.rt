@@ -1,85 +1,91 @@
 // Prints the counter's answers for every byte: its step as a horizontal and as a position counter, its value as a count,
 // and its count as a value.
+#![tactic(auto)]
+
 use counter::{Found, Horizontal, HorizontalStep, Position, PositionStep};
-use libc::STDOUT_FILENO;
+use std::io::{self, Print};
 
 // Writes bytes to standard output.
-fn text(bytes: &[u8]) {
-    io::write_all(STDOUT_FILENO, bytes);
+fn text(rt: &impl Print, bytes: &[u8]) -> io::Result<()> {
+    rt.write_all(bytes)
 }
 
 // A number in decimal.
-fn decimal(n: u8) {
-    io::print_decimal(STDOUT_FILENO, n as u64);
+fn decimal(rt: &impl Print, n: u8) -> io::Result<()> {
+    rt.print(n)
 }
 
 // The six bits of a value, leftmost first.
-fn bits(value: u8) {
-    text(&[
-        b'0' + value / 32 % 2,
-        b'0' + value / 16 % 2,
-        b'0' + value / 8 % 2,
-        b'0' + value / 4 % 2,
-        b'0' + value / 2 % 2,
-        b'0' + value % 2,
-    ]);
+fn bits(rt: &impl Print, value: u8) -> io::Result<()> {
+    text(
+        rt,
+        &[
+            b'0' + value / 32 % 2,
+            b'0' + value / 16 % 2,
+            b'0' + value / 8 % 2,
+            b'0' + value / 4 % 2,
+            b'0' + value / 2 % 2,
+            b'0' + value % 2,
+        ],
+    )
 }
 
 // A refused answer: refusal 10, record 0.
-fn refused() {
-    text(b"refused(10,0)");
+fn refused(rt: &impl Print) -> io::Result<()> {
+    text(rt, b"refused(10,0)")
 }
 
 // The step of the horizontal kind.
-fn horizontal(value: u8) {
+fn horizontal(rt: &impl Print, value: u8) -> io::Result<()> {
     match (Horizontal { value }).step() {
-        HorizontalStep::To(next) => bits(next.value),
-        HorizontalStep::Refused => refused(),
+        HorizontalStep::To(next) => bits(rt, next.value),
+        HorizontalStep::Refused => refused(rt),
     }
 }
 
 // The step of the position kind.
-fn position(value: u8) {
+fn position(rt: &impl Print, value: u8) -> io::Result<()> {
     match (Position { value }).step() {
-        PositionStep::To(next) => bits(next.value),
-        PositionStep::Refused => refused(),
+        PositionStep::To(next) => bits(rt, next.value),
+        PositionStep::Refused => refused(rt),
     }
 }
 
 // The value of a count.
-fn value_of(count: u8) {
+fn value_of(rt: &impl Print, count: u8) -> io::Result<()> {
     match counter::value_of_count(count) {
-        Found::Is(value) => bits(value),
-        Found::Refused => refused(),
+        Found::Is(value) => bits(rt, value),
+        Found::Refused => refused(rt),
     }
 }
 
 // The count of a value.
-fn count_of(value: u8) {
+fn count_of(rt: &impl Print, value: u8) -> io::Result<()> {
     match counter::count_of_value(value) {
-        Found::Is(count) => decimal(count),
-        Found::Refused => refused(),
+        Found::Is(count) => decimal(rt, count),
+        Found::Refused => refused(rt),
     }
 }
 
 // One row of the report: the input and its four answers.
-fn row(input: u8) {
-    decimal(input);
-    text(b" ");
-    horizontal(input);
-    text(b" ");
-    position(input);
-    text(b" ");
-    value_of(input);
-    text(b" ");
-    count_of(input);
-    text(b"\n");
+fn row(rt: &impl Print, input: u8) -> io::Result<()> {
+    decimal(rt, input)?;
+    text(rt, b" ")?;
+    horizontal(rt, input)?;
+    text(rt, b" ")?;
+    position(rt, input)?;
+    text(rt, b" ")?;
+    value_of(rt, input)?;
+    text(rt, b" ")?;
+    count_of(rt, input)?;
+    text(rt, b"\n")
 }
 
 // The heading, then a row for each byte.
-fn main() {
-    text(b"input horizontal position value count\n");
+fn main(rt: HostRuntime) -> io::Result<()> {
+    text(&rt, b"input horizontal position value count\n")?;
     for input in 0..=255u8 {
-        row(input);
+        row(&rt, input)?;
     }
+    Ok(())
 }

@@ -1,12 +1,14 @@
 // Reads a tape from standard input and writes for each of its lines 160 object bytes, then 160 colour bytes, as the line call
 // fills them.
+#![tactic(auto)]
+
 ghost use Rattle.std.specs.Prelude.{◌≡◌, ◌≤◌, length};
 ghost use Rattle.tape.specs.Reading.{longest};
 ghost use Rattle.tia.specs.Line.{buffers};
 ghost use Rattle.replay.specs.Replay.{line_from};
 
-use libc::{STDIN_FILENO, STDOUT_FILENO};
 use replay::Verdict;
+use std::io::{self, Print};
 use tia::State;
 
 // Room for the longest tape and one byte more.
@@ -16,15 +18,22 @@ const ROOM: usize = tape::LONGEST_TAPE + 1;
 const STEPS: u32 = (tape::LONGEST_TAPE + 1) as u32;
 
 // Writes object bytes and colours, which are those of the tape's line at a place, played from a state.
-fn emit(bytes: &[u8], colours: &[u8], state: State, tape: &[u8], place: usize)
+fn emit(
+    rt: &impl Print,
+    bytes: &[u8],
+    colours: &[u8],
+    state: State,
+    tape: &[u8],
+    place: usize,
+) -> io::Result<()>
     requires { buffers bytes.now colours.now ≡ (line_from state tape.now place).filled }
 {
-    io::write_all(STDOUT_FILENO, bytes);
-    io::write_all(STDOUT_FILENO, colours);
+    rt.write_all(bytes)?;
+    rt.write_all(colours)
 }
 
 // Plays the lines of a tape from the start state and writes both of each, up to the tape's end or a line that is refused.
-fn show_lines(tape: &[u8])
+fn show_lines(rt: &impl Print, tape: &[u8]) -> io::Result<()>
     requires { length tape.now ≤ longest }
 {
     let mut bytes = [0u8; 160];
@@ -35,19 +44,21 @@ fn show_lines(tape: &[u8])
         let played = replay::play_line(state, tape, place, &mut bytes, &mut colours);
         let verdict = played.verdict;
         let Verdict::Played(next) = verdict else {
-            return;
+            return Ok(());
         };
-        emit(&bytes, &colours, state, tape, place);
+        emit(rt, &bytes, &colours, state, tape, place)?;
         state = played.state;
         place = next;
     }
+    Ok(())
 }
 
 // Reads the tape and shows its lines; nothing is written for one that is too long.
-fn main() {
+fn main(rt: HostRuntime) -> io::Result<()> {
     let mut room = [0u8; ROOM];
-    let count = io::read_full(STDIN_FILENO, &mut room);
+    let count = input::read_full(&mut rt.reader(), &mut room)?;
     if count <= tape::LONGEST_TAPE {
-        show_lines(&room[..count]);
+        return show_lines(&rt, &room[..count]);
     }
+    Ok(())
 }

@@ -1,10 +1,12 @@
 // For measuring: makes one line call a number of times and writes the 160 object bytes and 160 colour bytes of the last line.
+#![tactic(auto)]
+
 ghost use Rattle.std.specs.Prelude.{◌≡◌};
 ghost use Rattle.tia.specs.State.{start_state};
 ghost use Rattle.tia.specs.Line.{buffers};
 ghost use Rattle.repeat_line.specs.Repeated.{repeated};
 
-use libc::{STDIN_FILENO, STDOUT_FILENO};
+use std::io::{self, Print};
 
 // Four bytes of count, and a write list of up to one record more than a line takes.
 const ROOM: usize = 691;
@@ -28,22 +30,21 @@ fn repeat(count: u32, writes: &[u8], buffer: &mut [u8], colours: &mut [u8])
 }
 
 // Makes the calls and writes the bytes and colours of the last line.
-fn show(count: u32, writes: &[u8]) {
+fn show(rt: &impl Print, count: u32, writes: &[u8]) -> io::Result<()> {
     let mut bytes = [0u8; 160];
     let mut colours = [0u8; 160];
     repeat(count, writes, &mut bytes, &mut colours);
-    io::write_all(STDOUT_FILENO, &bytes);
-    io::write_all(STDOUT_FILENO, &colours);
+    rt.write_all(&bytes)?;
+    rt.write_all(&colours)
 }
 
 // Reads the count and the write list; with fewer than four bytes no call is made.
-fn main() {
+fn main(rt: HostRuntime) -> io::Result<()> {
     let mut room = [0u8; ROOM];
-    let length = io::read_full(STDIN_FILENO, &mut room);
+    let length = input::read_full(&mut rt.reader(), &mut room)?;
     if length < 4 {
-        show(0, &room[..0]);
-        return;
+        return show(&rt, 0, &room[..0]);
     }
     let count = big_endian(room[0], room[1], room[2], room[3]);
-    show(count, &room[4..length]);
+    show(&rt, count, &room[4..length])
 }
