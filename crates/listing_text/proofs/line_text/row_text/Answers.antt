@@ -6,8 +6,7 @@ use Rattle.listing_text.proofs.line_text.row_text.Goals as goal
 
 pub returns : goal.returns
 unfolding row_text
-returns c =
-    (
-      put_then _ _ c.put_decimal-number.ensures.0 (put_then _ _ c.put_columns-columns.ensures.0 c.put_byte.ensures),
-      search rules,
-    )
+returns c = (
+  put_then _ _ c.put_decimal-number.ensures.0 (put_then _ _ c.put_columns-columns.ensures.0 c.put_byte.ensures),
+  search rules,
+)
