@@ -1,7 +1,7 @@
 // What the case file has for a call: the length of its list or tape, these bytes, and the two buffers before the call.
 ghost use Rattle.std.specs.Prelude.{◌≤◌, length};
 
-use std::io::{self, Read};
+use std::io::Read;
 use tia::{LineAnswer, State};
 
 // The room for a list or a tape: the longest that a case may have.
@@ -23,11 +23,10 @@ pub(crate) fn lent_of(byte: u8) -> usize
 }
 
 // Reads so many bytes to the start of a room.
-pub(crate) fn read_part(reader: &mut impl Read, room: &mut [u8], count: usize) -> io::Result<()>
+pub(crate) fn read_part(reader: &mut impl Read, room: &mut [u8], count: usize)
     requires { count ≤ length room.old }
 {
-    input::read_full(reader, &mut room[0..count])?;
-    Ok(())
+    input::read_full(reader, &mut room[0..count]);
 }
 
 // The byte after a byte, 255 going to 0.

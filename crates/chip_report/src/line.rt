@@ -72,7 +72,7 @@ pub(crate) fn row(
 ) -> io::Result<()> {
     let mut space = [0u8; 4096];
     let length = length_of(record[71], record[72]);
-    read_part(reader, &mut space, length)?;
+    read_part(reader, &mut space, length);
     let list: &[u8] = &space;
     let mut room = [0u8; 255];
     let buffer: &mut [u8] = &mut room;

@@ -40,10 +40,10 @@ fn row(
 fn next(rt: &impl Print, reader: &mut impl Read, number: u32) -> io::Result<bool> {
     let mut kind = [0u8; 1];
     let mut record = [0u8; 73];
-    if input::read_full(reader, &mut kind)? < 1 {
+    if input::read_full(reader, &mut kind) < 1 {
         return Ok(false);
     }
-    if input::read_full(reader, &mut record)? < 73 {
+    if input::read_full(reader, &mut record) < 73 {
         return Ok(false);
     }
     row(rt, reader, kind[0], number, &record)

@@ -27,12 +27,12 @@ impl Run {
     }
 
     // The run after one more call of the record.
-    fn read(self, reader: &mut impl Read, first: u8) -> io::Result<Run> {
+    fn read(self, reader: &mut impl Read, first: u8) -> Run {
         let mut lengths = [0u8; 4];
-        input::read_full(reader, &mut lengths)?;
+        input::read_full(reader, &mut lengths);
         let mut space = [0u8; 4096];
         let length = length_of(lengths[2], lengths[3]);
-        read_part(reader, &mut space, length)?;
+        read_part(reader, &mut space, length);
         let list: &[u8] = &space;
         let mut room = [0u8; 255];
         let buffer: &mut [u8] = &mut room;
@@ -40,12 +40,12 @@ impl Run {
         let mut colour_room = [0u8; 255];
         let colours: &mut [u8] = &mut colour_room;
         let colours_lent = lent_of(lengths[1]);
-        Ok(self.called(
+        self.called(
             &list[0..length],
             &mut buffer[0..lent],
             &mut colours[0..colours_lent],
             first,
-        ))
+        )
     }
 
     // The run after a call without writes.
@@ -57,7 +57,7 @@ impl Run {
 }
 
 // The digest of a run's calls from a state; the first buffer's first byte is the case's number.
-fn digest_of(reader: &mut impl Read, start: State, n: u32) -> io::Result<u32> {
+fn digest_of(reader: &mut impl Read, start: State, n: u32) -> u32 {
     let mut run = Run {
         digest: 0,
         state: start,
@@ -67,10 +67,10 @@ fn digest_of(reader: &mut impl Read, start: State, n: u32) -> io::Result<u32> {
         if (call < 2) | (call >= 22) {
             run = run.quiet(first);
         } else {
-            run = run.read(reader, first)?;
+            run = run.read(reader, first);
         }
     }
-    Ok(run.digest)
+    run.digest
 }
 
 // The row of a run: its number and its digest. Its calls follow its record.
@@ -81,6 +81,6 @@ pub(crate) fn row(
     record: &[u8; 73],
 ) -> io::Result<()> {
     heading(rt, b"run ", n)?;
-    hex(rt, digest_of(reader, state_from(record), n)?)?;
+    hex(rt, digest_of(reader, state_from(record), n))?;
     text(rt, b"\n")
 }

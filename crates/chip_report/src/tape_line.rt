@@ -84,12 +84,12 @@ pub(crate) fn row(
     record: &[u8; 73],
 ) -> io::Result<()> {
     let mut head = [0u8; 8];
-    input::read_full(reader, &mut head)?;
+    input::read_full(reader, &mut head);
     let high = four(record[71], record[72], head[0], head[1]);
     let at = high * 4294967296 + four(head[2], head[3], head[4], head[5]);
     let mut space = [0u8; 4096];
     let length = length_of(head[6], head[7]);
-    read_part(reader, &mut space, length)?;
+    read_part(reader, &mut space, length);
     let tape: &[u8] = &space;
     let mut room = [0u8; 255];
     let buffer: &mut [u8] = &mut room;
