@@ -17,7 +17,6 @@ from classroom.lines import Replay, lines_of
 PROJECT = Path(__file__).resolve().parent.parent
 BIN = PROJECT / "target/bin"
 CRATES = PROJECT / "crates.txt"
-STAMPS = PROJECT / "target/stamp"  # of the crates that rt has proved
 PROGRAMS = ("line_bytes", "listing", "clock_bytes", "card_bytes")
 PROVED = re.compile(r"rt: (\w+) proved(?: \((\d+) s\))?")
 BAR = 24  # characters of the bar, with which a row has room on 80 columns
@@ -127,9 +126,7 @@ def prove():
     total = len(crates_of(PROGRAMS))
     print(f"building the programs: {total} crates are proved first, which may take two minutes", file=sys.stderr)
     begun = time.monotonic()
-    command = ["rt", "check", *PROGRAMS]
-    for program in missing():
-        (STAMPS / program).unlink(missing_ok=True)  # rt links a program only when it proves its crate
+    command = ["tools/build", *PROGRAMS]
     with subprocess.Popen(command, cwd=PROJECT, stdout=subprocess.PIPE, stderr=subprocess.STDOUT) as process:
         with ended_with(process), Progress(total, sys.stderr) as progress:
             for row in rows_from(process.stdout, progress.tick):

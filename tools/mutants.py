@@ -8,10 +8,12 @@ FUNCTION = re.compile(r"^( *)(?:pub(?:\(crate\))? )?fn (\w+)\(([^)]*)\)")
 OWNER = re.compile(r"^impl (\w+) \{")
 CONSTANT = re.compile(r"^(?:pub(?:\(crate\))? )?const (\w+): (\w+) = (\w+);")
 TABLE = re.compile(r"^(?:pub(?:\(crate\))? )?const (\w+): \[u8; \w+\] = \[\n(.*?)^\];", re.M | re.S)
-ENTRY = re.compile(r"^    0b([01]+),$", re.M)
+ENTRY = re.compile(r"\b0b([01]+),")
 FIELD = re.compile(r"^    (?:pub(?:\(crate\))? )?(\w+): ([\w\[\]; ]+),$")
 PARAMETER = re.compile(r"(\w+): (u8|u32|usize|bool)\b")
 TOKEN = re.compile(r"0x[0-9A-Fa-f]+|\d+|\w+|<=|>=|==|!=|<<|>>|=>|->|\+=|\.\.|::|[-+*/%&|!<>.]")
+# What a file takes from another of its crate.
+IMPORTS = re.compile(r"^use crate::\w+::(\w+|\{[^}]*\});", re.M)
 # A comparison in brackets, without further brackets inside.
 CONDITION = re.compile(r"\((?!\()[^()]*(?:==|!=| <= | >= | < | > )[^()]*\)")
 # What an `if` asks.
@@ -107,7 +109,7 @@ def constants(texts):
 
 def neighbour(name, table, file, text):
     """Of the constants that a file's text can name, the one of the same type that is declared next after this, else before."""
-    named = set(re.findall(r"^use crate::\w+::(\w+);", text, re.M))
+    named = {name for names in IMPORTS.findall(text) for name in re.findall(r"\w+", names)}
     kind = table[name][2]
     same = [other for other, entry in table.items() if entry[2] == kind and (other in named or entry[0] == file)]
     if name not in same:

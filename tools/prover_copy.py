@@ -13,11 +13,13 @@ from pathlib import Path
 from prover_log import judged
 
 ROOT = Path(__file__).resolve().parent.parent
-# Where copies may stand: `rt check` calls a crate's file anywhere else a file that nothing proves.
+# Where copies stand: in a folder that git ignores.
 WORKPLACE = ROOT / "target"
 EDITS = "must-fail"
+# What the prover keeps of a crate, in the crate's folder.
+KEPT = "out"
 # A crate that another stands on and that is not proved.
-UNPROVED_CRATE = re.compile(r"^rt: (\w+) NOT PROVED", re.M)
+UNPROVED_CRATE = re.compile(r"^rt: the library (\w+) did not build", re.M)
 
 
 class CannotCheck(Exception):
@@ -55,10 +57,15 @@ def standing_on(crate, crates):
     return found
 
 
+def below(folder):
+    """The paths below a folder by their names in it, but for the must-fail edits and what the prover keeps."""
+    found = {path.relative_to(folder): path for part in folder.glob("*") if part.name not in (EDITS, KEPT) for path in (part, *part.rglob("*"))}
+    return dict(sorted(found.items(), reverse=True))
+
+
 def files_of(folder):
-    """The files below a folder by their names in it, but for the must-fail edits."""
-    found = {path.relative_to(folder): path for path in folder.rglob("*") if path.is_file()}
-    return {name: path for name, path in found.items() if name.parts[0] != EDITS}
+    """Those of them that are files."""
+    return {name: path for name, path in below(folder).items() if path.is_file()}
 
 
 def mirror(source, target):
@@ -67,7 +74,7 @@ def mirror(source, target):
     for name, path in files_of(target).items():
         if name not in wanted:
             path.unlink()
-    for folder in sorted(target.rglob("*"), reverse=True):
+    for folder in below(target).values():
         if folder.is_dir() and not any(folder.iterdir()):
             folder.rmdir()
     for name, path in wanted.items():
@@ -110,11 +117,14 @@ class Copy:
                 shutil.rmtree(folder)
         for crate in {name for one in wanted for name in standing_on(one, crates)}:
             mirror(root / "crates" / crate, self.folder / "crates" / crate)
-        write(self.folder / "crates.txt", (root / "crates.txt").read_bytes())
+        there = {path.name for path in (self.folder / "crates").glob("*")}
+        rows = [f"{name}: {' '.join(below)}".rstrip() + "\n" for name, below in crates.items() if name in there]
+        write(self.folder / "crates.txt", "".join(rows).encode())
 
-    def run(self, command, crate):
-        """Exit status and log of a command of the prover on a crate."""
-        done = subprocess.run(["rt", command, crate], cwd=self.folder, stdout=subprocess.PIPE, stderr=subprocess.STDOUT)
+    def run(self, crate):
+        """Exit status and log of the prover's check of a crate."""
+        folder = self.folder / "crates" / crate
+        done = subprocess.run(["rt", "check"], cwd=folder, stdout=subprocess.PIPE, stderr=subprocess.STDOUT)
         return done.returncode, done.stdout.decode("utf-8", "replace")
 
     def prove(self, crate):
@@ -126,24 +136,21 @@ class Copy:
 
     def fault(self, crate):
         """Why a crate is not proved as it stands; empty if it is."""
-        if not (self.folder / "target" / "inc" / crate).exists():
-            print(f"{self.folder.relative_to(ROOT)}: proving crate '{crate}' from nothing, once", file=sys.stderr)
-        code, log = self.run("dev", crate)
+        if not (self.folder / "crates" / crate / KEPT).exists():
+            print(f"{self.folder.relative_to(ROOT)}: proving crate '{crate}' for the first time there", file=sys.stderr)
+        code, log = self.run(crate)
         name = (UNPROVED_CRATE.findall(log) or [crate])[0]
-        said = f"the crate '{name}' is not proved as it stands ({judged(code, log).said()}): mend it first, with 'rt dev {name}'"
+        said = f"the crate '{name}' is not proved as it stands ({judged(code, log).said()}): mend it first, with 'rt check' in crates/{name}"
         return said if code != 0 else ""
 
     def check(self, crate, changes):
-        """The verdict on a variant of a crate, and the log: `changes` has the new texts of files. One that the quick check lets
-        pass is checked whole."""
+        """The verdict on a variant of a crate, and the log: `changes` has the new texts of files."""
         self.prove(crate)
         before = {name: (self.folder / name).read_bytes() for name in changes}
         try:
             for name, text in changes.items():
                 (self.folder / name).write_bytes(text.encode())
-            code, log = self.run("dev", crate)
-            if code == 0:
-                code, log = self.run("check", crate)
+            code, log = self.run(crate)
         finally:
             for name, data in before.items():
                 (self.folder / name).write_bytes(data)

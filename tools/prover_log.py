@@ -5,32 +5,29 @@ from dataclasses import dataclass
 
 # What is said of a place: its file and line, the kind of error if the compiler says it, and the message, whose further rows are
 # indented.
-OBJECTION = re.compile(r"^(.+?):(\d+):\d+: error((?:\[[\w-]+\])?): (.*(?:\n  .*)*)", re.M)
+OBJECTION = re.compile(r"^(?!so far: )(.+?):(\d+):\d+: error((?:\[[\w-]+\])?): (.*(?:\n  .*)*)", re.M)
 # What stands before a message: the declaration that it is about, and a name in it.
 ABOUT = r"(?:`[^`]*`: )"
 # A message that only follows from another.
-CONSEQUENCE = re.compile(ABOUT + r"*`[^`]*` (?:cannot be unfolded because it )?was not admitted")
+CONSEQUENCE = re.compile(ABOUT + r"*`[^`]*` (?:cannot be unfolded because it )?was not admitted|\d+ declarations? that depends? on `|this file exports no `")
 # The text names what is not there, or hands over what is not asked for: it no longer fits the code or the definitions.
 MISFIT = re.compile(
     ABOUT + r"*(?:(?:module|record) `[^`]*` has no (?:field )?`"
     r"|`[^`]*` is not a field of record"
     r"|`[^`]*` is not in scope\b(?! here)|no constructor `[^`]*` is in scope"
     r"|[\w` ]*needs a function (?:\(or path\) )?type to bind"
-    r"|expected type `[^`]*`,? but this has type `[^` ]*\bNeed-"
     r"|[^`]*(?:`[^`]*`)? (?:takes \d+ arguments|too many arguments))"
 )
-# A function that has no proof of its own and that the prover does not prove by itself: where the first fact is asked for of which
-# it finds no proof, the function, the file that a proof would stand in, and the facts.
+# A function with facts that no answer proves and that the prover does not prove by itself: where the first of these facts is asked
+# for, the function, the file that answers would stand in, and the facts.
 UNPROVED = re.compile(
     r"^(?:note: (.+?\.rt:\d+):\d+: .*\n(?:(?!fn |struct |enum ).*\n)*)?"
-    r"fn (\S+): no proof: expected \S+ in (.+?)(?:; (`search` does not close .*))?$",
+    r"fn (\S+): no proof: expected [\w ]+ in (.+?)(?:; (`search` did not prove (?:`[^`]*`(?:, )?)+))?(?:; it calls .*)?$",
     re.M,
 )
-# A program that is proved, and whose output is not the stored one.
-RUN_FAILED = re.compile(r"^rt: \w+ proved, and its run FAILED", re.M)
 # The modules before a name that is written in full, and the steps back from a place of the code.
-MODULES = re.compile(r"(?<![\w·/.])(?:[\w·'-]+\.)+(?=[^\s.`])")
-STEPS_BACK = re.compile(r"(?: \.before)+")
+MODULES = re.compile(r"(?<![\w·/.])(?:Rattle|mathlib|lib|Prim|native|borrow|denote|types)\.(?:[\w·'+-]+\.)*(?=[^\s.`])")
+STEPS_BACK = re.compile(r"(?:\.before)+")
 
 
 @dataclass(frozen=True)
@@ -43,7 +40,7 @@ class Objection:
     def plain(self):
         """The message, the prover's without the modules of its names."""
         from_compiler = self.message.startswith("[")
-        return self.message if from_compiler else STEPS_BACK.sub(" .before", MODULES.sub("", self.message))
+        return self.message if from_compiler else STEPS_BACK.sub(".before", MODULES.sub("", self.message))
 
     def kind(self):
         """What it shows, as an outcome: a fact that does not hold, a proof that no longer fits, or nothing to prove."""
@@ -76,7 +73,7 @@ def shortened(message, longest):
 
 def in_crate(file):
     """A file's name in its crate."""
-    return re.sub(r"^.*/crates/\w+/", "", file)
+    return re.sub(r"^(?:.*/crates/\w+/|\./)", "", file)
 
 
 def objections(log):
@@ -87,7 +84,7 @@ def objections(log):
 
 def judged(code, log):
     """The verdict that the prover's exit status and log give."""
-    if code == 0 or RUN_FAILED.search(log):
+    if code == 0:
         return Verdict("passed")
     found = objections(log) if code == 1 else []
     if found:

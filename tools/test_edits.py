@@ -17,23 +17,22 @@ from prover_copy import Copy, listed, mirror, standing_on
 from prover_log import Verdict, judged
 
 PROJECT = Path(__file__).resolve().parent.parent
-CRATE = "/x/crates/tape"
-PROOF = f"{CRATE}/proofs/a/f/Proof.antt"
-FOLLOWS = f"{PROOF}:50:5: error: `f-spec`: `returns` was not admitted (it has holes, or was rejected)\n"
-UNFOLDED = f"{CRATE}/proofs/Laws.antt:3:4: error: `law`: `f` cannot be unfolded because it was not admitted: it has an error\n"
+PROOF = "./proofs/a/f/Answers.antt"
+FOLLOWS = f"{PROOF}:50:5: error: 1 declaration that depends on `line`, which was rejected, was not checked: returns\n"
+UNFOLDED = "./proofs/Laws.antt:3:4: error: `law`: `f` cannot be unfolded because it was not admitted: it has an error\n"
 REFUTED = f"{PROOF}:30:5: error: `returns`: computed as far as they go, the two types differ where one has `1`\n  (expected)\n"
-MISSING = f"{PROOF}:33:13: error: `add`: `tie.Need-add`: module `p.f.Tie` has no `Need-add` that can be named from here\n"
+MISSING = f"{PROOF}:33:13: error: `add`: `goal.add`: module `p.f.Goals` has no `add` that can be named from here\n"
 ENDED = "fn tape::a::f: not proved\nlogic=not-proved\n"
 
 # What stands in for the prover: it says of a crate's only file what the text of the file is about.
 PROVER = """#!/bin/sh
-echo "$1 $2" >>calls
-text=$(cat crates/$2/src/lib.rt)
+echo "$1 $(basename "$PWD")" >>../../calls
+mkdir -p out
+text=$(cat src/lib.rt)
 case $text in
-*below*) echo "rt: base NOT PROVED (exit 1, 0 s)"; exit 1 ;;
-*wrong*) echo "$PWD/crates/$2/proofs/f/Proof.antt:3:4: error: \\`returns\\`: \\`omega\\`: the goal does not follow"; exit 1 ;;
-*shape*) echo "$PWD/crates/$2/proofs/f/Proof.antt:3:4: error: \\`returns\\`: record \\`r\\` has no field \\`if1\\`"; exit 1 ;;
-*quick*) [ $1 = dev ] || { echo "$PWD/crates/$2/proofs/f/Proof.antt:5:6: error: \\`law\\`: \\`omega\\`: no"; exit 1; } ;;
+*below*) echo "rt: the library base did not build, so nothing above it was checked"; exit 1 ;;
+*wrong*) echo "./proofs/f/Answers.antt:3:4: error: \\`returns\\`: \\`omega\\`: the goal does not follow"; exit 1 ;;
+*shape*) echo "./proofs/f/Answers.antt:3:4: error: \\`returns\\`: record \\`r\\` has no field \\`if1\\`"; exit 1 ;;
 *) echo logic=proved ;;
 esac
 """
@@ -85,17 +84,16 @@ class Logs(unittest.TestCase):
     def test_the_first_error_that_does_not_follow(self):
         verdict = judged(1, UNFOLDED + FOLLOWS + REFUTED + ENDED)
         message = "`returns`: computed as far as they go, the two types differ where one has `1` (expected)"
-        self.assertEqual(verdict, Verdict("refused", "proofs/a/f/Proof.antt:30", message))
+        self.assertEqual(verdict, Verdict("refused", "proofs/a/f/Answers.antt:30", message))
 
     def test_hollow(self):
         for message in (
-            "module `p.f` has no `Tie` that can be named from here",
+            "module `p.f` has no `Given` that can be named from here",
             "`returns`: record `p.Lts.After-known`\n  has no field `if1`",
             "`law`: `first` is not a field of record `Form`",
-            "`returns`: `badLine` is not in scope; did you mean `badLength`?",
+            "`returns`: `bad_line` is not in scope; did you mean `bad_length`?",
             "`returns`: no constructor `Cut` is in scope",
             "`sub`: this pattern needs a function (or path) type to bind, but the signature at this point is `x`",
-            "`f-spec`: expected type `tie.Need-sub`, but this has type `tie.Need-returns`\n  computed, the two differ",
         ):
             with self.subTest(message=message):
                 self.assertEqual(self.outcome(f"{FOLLOWS}{PROOF}:1:2: error: {message}\n{ENDED}"), "hollow")
@@ -103,11 +101,11 @@ class Logs(unittest.TestCase):
     def test_what_is_said_after_the_first_error(self):
         self.assertEqual(judged(1, MISSING + REFUTED + ENDED).outcome, "hollow")
         later = judged(1, REFUTED + MISSING + ENDED)
-        self.assertEqual((later.outcome, later.misfit), ("refused", "proofs/a/f/Proof.antt:33"))
+        self.assertEqual((later.outcome, later.misfit), ("refused", "proofs/a/f/Answers.antt:33"))
         self.assertEqual(judged(1, REFUTED + FOLLOWS).misfit, "")
 
     def test_a_hint_is_no_misfit(self):
-        self.assertEqual(self.outcome(REFUTED + "  `κs` is not in scope here, so what is shown does not paste back\n"), "refused")
+        self.assertEqual(self.outcome(REFUTED + "  `w` is not in scope here, so what is shown does not paste back\n"), "refused")
 
     def test_no_program(self):
         for place, message in (
@@ -117,26 +115,29 @@ class Logs(unittest.TestCase):
             ("specs/A.antt", "error: `)` cannot continue the declaration here"),
         ):
             with self.subTest(message=message):
-                self.assertEqual(self.outcome(f"{CRATE}/{place}:1:2: {message}\n{ENDED}"), "no program")
+                self.assertEqual(self.outcome(f"{place}:1:2: {message}\n{ENDED}"), "no program")
 
     def test_a_definition_of_which_a_fact_fails(self):
-        log = f"{CRATE}/specs/Cases.antt:67:5: error: `one`: the two sides `true` and `false` differ\n"
+        log = "./specs/Cases.antt:67:5: error: `one`: the two sides `true` and `false` differ\n"
         self.assertEqual(judged(1, log).said(), "refused: specs/Cases.antt:67: `one`: the two sides `true` and `false` differ")
 
-    def test_functions_without_a_proof(self):
-        note = f"note: {CRATE}/src/a.rt:44:1: it is not proved that what the function ensures holds when it returns (`returns`)\n"
-        alone = f"fn tape::a::f: no proof: expected `f-spec` in {PROOF}"
-        fact = judged(1, f"{FOLLOWS}{note}{alone}; `search` does not close `returns`\nlogic=not-proved\n")
-        self.assertEqual(fact, Verdict("refused", "src/a.rt:44", "fn tape::a::f: no proof: `search` does not close `returns`"))
-        two = f"struct tape::a::S: proved\n{note.replace('44', '40')}{note}{alone}; `search` does not close `add`, `returns`\n"
+    def test_functions_without_answers(self):
+        note = "note: src/a.rt:44:1: it is not proved that what the function ensures holds when it returns (`returns`)\n"
+        alone = f"fn tape::a::f: no proof: expected answers in {PROOF}"
+        fact = judged(1, f"{FOLLOWS}{note}{alone}; `search` did not prove `returns`; it calls `tape::g`, which is not proved\nlogic=not-proved\n")
+        self.assertEqual(fact, Verdict("refused", "src/a.rt:44", "fn tape::a::f: no proof: `search` did not prove `returns`"))
+        two = f"struct tape::a::S: proved\n{note.replace('44', '40')}{note}{alone}; `search` did not prove `add`, `returns`\n"
         self.assertEqual(judged(1, f"{note.replace('44', '7')}fn tape::a::e: proved\n{two}").where, "src/a.rt:40")
-        form = judged(1, f"{FOLLOWS}{alone}\nlogic=not-proved\n")
-        self.assertEqual((form.outcome, form.where), ("hollow", "proofs/a/f/Proof.antt"))
-        self.assertEqual(judged(1, f"{alone}\n{alone}; `search` does not close `add`\n").outcome, "refused")
+        measure = "fn tape::a::f: no proof: expected a measure in ./proofs/a/f/Invariants.antt"
+        form = judged(1, f"{FOLLOWS}{measure}\nlogic=not-proved\n")
+        self.assertEqual((form.outcome, form.where), ("hollow", "proofs/a/f/Invariants.antt"))
+        self.assertEqual(judged(1, f"{measure}\n{alone}; `search` did not prove `add`\n").outcome, "refused")
+
+    def test_what_is_said_so_far_is_said_again(self):
+        self.assertEqual(judged(1, f"so far: {MISSING}{REFUTED}").outcome, "refused")
 
     def test_passed(self):
         self.assertEqual(judged(0, "logic=proved").outcome, "passed")
-        self.assertEqual(judged(1, "rt: listing proved, and its run FAILED (0 s)\nrt: FAILED: listing\n").outcome, "passed")
 
     def test_unknown(self):
         self.assertEqual(judged(2, "a\nrt: no room\n\n").said(), "unknown: exit status 2: rt: no room")
@@ -144,8 +145,8 @@ class Logs(unittest.TestCase):
         self.assertEqual(judged(1, "").said(), "unknown: exit status 1")
 
     def test_a_message_is_shortened(self):
-        said = judged(1, f"{PROOF}:1:2: error: `f`: at `lib.Dec.eqb (c .before .before .args) {'x' * 300}`\n").said(40)
-        self.assertEqual(said, "refused: proofs/a/f/Proof.antt:1: `f`: at `eqb (c .before .args) xxxxxxx..")
+        said = judged(1, f"{PROOF}:1:2: error: `f`: at `lib.Dec.eqb (c.before.before.args) {'x' * 300}`\n").said(40)
+        self.assertEqual(said, "refused: proofs/a/f/Answers.antt:1: `f`: at `eqb (c.before.args) xxxxxxxxx..")
 
 
 class Copies(unittest.TestCase):
@@ -165,7 +166,7 @@ class Copies(unittest.TestCase):
         return {str(p.relative_to(folder)): p.read_text("utf-8") for p in folder.rglob("*") if p.is_file()}
 
     def test_the_crates_that_a_crate_stands_on(self):
-        self.put("crates.txt", "# All crates.\nlaws:\n\ntape: laws  # a library\nshow : tape io libc\nother: laws\n")
+        self.put("crates.txt", "# All crates.\nlaws:\n\ntape: laws  # a library\nshow : tape std\nother: laws\n")
         crates = listed(self.root)
         self.assertEqual(list(crates), ["laws", "tape", "show", "other"])
         self.assertEqual(standing_on("show", crates), ["show", "tape", "laws"])
@@ -173,10 +174,10 @@ class Copies(unittest.TestCase):
     def test_a_folder_is_brought_up_to_date(self):
         self.put("a/src/one.rt", "1")
         self.put("a/src/two.rt", "2")
-        self.put("a/proofs/f/Proof.antt", "p")
+        self.put("a/proofs/f/Answers.antt", "p")
         self.put("a/must-fail/x.edit", "e")
         mirror(self.root / "a", self.root / "b")
-        self.assertEqual(self.there(self.root / "b"), {"src/one.rt": "1", "src/two.rt": "2", "proofs/f/Proof.antt": "p"})
+        self.assertEqual(self.there(self.root / "b"), {"src/one.rt": "1", "src/two.rt": "2", "proofs/f/Answers.antt": "p"})
         before = (self.root / "b/src/one.rt").stat().st_mtime_ns
         shutil.rmtree(self.root / "a/proofs/f")
         self.put("a/proofs/f", "now a file")
@@ -191,13 +192,14 @@ class Copies(unittest.TestCase):
             self.put(f"crates/{crate}/src/lib.rt", crate)
         copy = Copy(self.root / "target/edits/0")
         copy.update(self.root, ["tape", "old"], fresh=False)
-        self.put("target/edits/0/target/inc/made", "kept")
+        self.put("target/edits/0/crates/tape/out/made", "kept")
+        self.put("crates/tape/out/made", "not copied")
         self.put("target/edits/0/crates/tape/src/lib.rt", "left by a run that was stopped")
         self.put("crates.txt", "laws:\ntape: laws io\nother:\n")
         copy.update(self.root, ["tape"], fresh=False)
         crates = {f"crates/{name}/src/lib.rt": name for name in ("laws", "tape")}
-        crates["crates.txt"] = "laws:\ntape: laws io\nother:\n"
-        self.assertEqual(self.there(copy.folder), {**crates, "target/inc/made": "kept"})
+        crates["crates.txt"] = "laws:\ntape: laws io\n"  # the prover wants each crate that is listed
+        self.assertEqual(self.there(copy.folder), {**crates, "crates/tape/out/made": "kept"})
         copy.update(self.root, ["tape"], fresh=True)
         self.assertEqual(self.there(copy.folder), crates)
 
@@ -241,7 +243,7 @@ class Command(unittest.TestCase):
             self.edit("top", f"mistake_{number}", f"wrong {number}")
         self.edit("base", "mistake", "wrong")
         code, rows, _ = self.run_it()
-        said = "refused: proofs/f/Proof.antt:3: `returns`: `omega`: the goal does not follow"
+        said = "refused: proofs/f/Answers.antt:3: `returns`: `omega`: the goal does not follow"
         labels = ["base/mistake", *(f"top/mistake_{number}" for number in range(5))]
         self.assertEqual((code, sorted(rows)), (0, [f"{label}: {said}" for label in labels]))
         for copy in ("0", "1"):
@@ -253,32 +255,30 @@ class Command(unittest.TestCase):
             self.edit("top", label, "wrong")
         code, rows, _ = self.run_it("top", "--jobs", "1", "two", "one.edit")
         self.assertEqual((code, [row.partition(":")[0] for row in rows]), (0, ["top/two", "top/one"]))
-        self.assertEqual((self.root / "target/edits/0/calls").read_text().split("\n"), ["dev top"] * 3 + [""])
+        self.assertEqual((self.root / "target/edits/0/calls").read_text().split("\n"), ["check top"] * 3 + [""])
 
     def test_each_that_is_not_refused(self):
         self.edit("top", "hollow", "shape")
         self.edit("top", "passed", "still right")
-        self.edit("top", "only_quick", "quick")
         (self.root / "crates/top/must-fail/gone.edit").write_text("file: src/lib.rt\nold: nowhere\nnew: x\n")
         code, rows, _ = self.run_it("top")
         self.assertEqual(code, 1)
         self.assertEqual(sorted(row for row in rows if row.startswith("top/")), [
             "top/gone: bad edit: must-fail/gone.edit:3: 'old: nowhere' is not in src/lib.rt",
-            "top/hollow: hollow: proofs/f/Proof.antt:3: `returns`: record `r` has no field `if1`",
-            "top/only_quick: refused: proofs/f/Proof.antt:5: `law`: `omega`: no",
+            "top/hollow: hollow: proofs/f/Answers.antt:3: `returns`: record `r` has no field `if1`",
             "top/passed: passed",
         ])  # fmt: skip
-        self.assertEqual([row.partition(":")[0] for row in rows[4:]], ["hollow", "passed", "bad edit"])
+        self.assertEqual([row.partition(":")[0] for row in rows[3:]], ["hollow", "passed", "bad edit"])
 
     def test_a_crate_that_is_not_proved(self):
         self.edit("top", "mistake", "wrong")
         (self.root / "crates/top/src/lib.rt").write_text("fn f: right and wrong\n")
         code, rows, said = self.run_it("top")
         self.assertEqual((code, rows), (2, []))
-        self.assertIn("error: the crate 'top' is not proved as it stands (refused: proofs/f/Proof.antt:3: ", said)
-        self.assertIn("mend it first, with 'rt dev top'", said)
+        self.assertIn("error: the crate 'top' is not proved as it stands (refused: proofs/f/Answers.antt:3: ", said)
+        self.assertIn("mend it first, with 'rt check' in crates/top", said)
         (self.root / "crates/top/src/lib.rt").write_text("fn f: right, but for what is below\n")
-        self.assertIn("mend it first, with 'rt dev base'", self.run_it("top")[2])
+        self.assertIn("mend it first, with 'rt check' in crates/base", self.run_it("top")[2])
 
     def test_what_cannot_be_tried(self):
         self.assertEqual(self.run_it()[2], "error: no crate has must-fail edits: write one as crates/CRATE/must-fail/LABEL.edit\n")

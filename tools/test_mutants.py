@@ -16,8 +16,7 @@ const LEAST: u8 = 4;
 const TABLE: [u8; 4] = [
     0b000,
     // A remark.
-    0b100,
-    0b011,
+    0b100, 0b011,
     0b101,
 ];
 pub struct Pair {
@@ -28,7 +27,7 @@ pub struct Pair {
 impl Pair {
     // Whether it is right.
     pub(crate) fn right(self, least: u8, most: u8, open: bool) -> bool
-        ensures { λ r. ⌜ r ≡ rightOf 5 < 6 ⌝ }
+        ensures { result ≡ right_of 5 < 6 }
     {
         if open {
             return !self.flag;
@@ -72,7 +71,7 @@ class Mutants(unittest.TestCase):
         self.assertEqual(changed("const LEAST"), {("constant", "const LEAST: u8 = 5;")})
 
     def test_tables(self):
-        expected = {("entry", row) for row in ("0b010,", "0b101,", "0b011,")}
+        expected = {("entry", row) for row in ("0b010, 0b011,", "0b100, 0b101,", "0b011,")}
         self.assertEqual(changed("const TABLE"), expected)
 
     def test_each_variant_differs(self):
@@ -82,7 +81,7 @@ class Mutants(unittest.TestCase):
     def test_every_entry_of_the_mirrored_bytes(self):
         (file,) = (PROJECT / "crates/mirror/src").glob("mirrored_bytes.rt")
         made = of_files({file.name: file.read_text("utf-8")}, 1)[(file.name, "const MIRRORED_BYTES")]
-        self.assertEqual(len({mutant.line for mutant in made}), 254)  # all but 0 and 255
+        self.assertEqual(len({mutant.start for mutant in made}), 254)  # all but 0 and 255
         for mutant in made:
             self.assertEqual(sorted(mutant.old), sorted(mutant.new))
 
@@ -103,19 +102,18 @@ class Mutants(unittest.TestCase):
 
 class Logs(unittest.TestCase):
     def test_verdicts(self):
-        crate = "/x/crates/tia"
-        consequence = f"{crate}/proofs/a/g/Proof.antt:1:2: error: `g-spec`: `close` was not admitted\n"
-        broken = f"{crate}/proofs/a/f/Proof.antt:3:4: error: `returns`: `omega`: the goal does not follow\n"
-        shape = f"{crate}/proofs/a/f/Proof.antt:3:4: error: module `Tie` has no `Need-add` that can be named from here\n"
-        alone = f"fn tia::a::f: no proof: expected `f-spec` in {crate}/proofs/a/f/Proof.antt; `search` does not close `add`\n"
-        compiler = f"{crate}/src/a.rt:1:2: error[mismatched-types]: expected `u8`\n"
-        proof = "proofs/a/f/Proof.antt"
+        proof = "proofs/a/f/Answers.antt"
+        consequence = "./proofs/a/g/Answers.antt:1:2: error: 1 declaration that depends on `law`, which was rejected, was not checked: returns\n"
+        broken = f"./{proof}:3:4: error: `returns`: `omega`: the goal does not follow\n"
+        shape = f"./{proof}:3:4: error: module `Goals` has no `add` that can be named from here\n"
+        alone = f"fn tia::a::f: no proof: expected answers in ./{proof}; `search` did not prove `add`\n"
+        compiler = "src/a.rt:1:2: error[mismatched-types]: expected `u8`\n"
         for code, log, said in (
             (0, "logic=proved", "passed"),
             (1, compiler, "no program: src/a.rt:1: [mismatched-types] expected `u8`"),
             (1, consequence + broken, f"refused: {proof}:3: `returns`: `omega`: the goal does not follow"),
-            (1, consequence + shape, f"hollow: {proof}:3: module `Tie` has no `Need-add` that can be named from here"),
-            (1, consequence + alone, f"refused: {proof}: fn tia::a::f: no proof: `search` does not close `add`"),
+            (1, consequence + shape, f"hollow: {proof}:3: module `Goals` has no `add` that can be named from here"),
+            (1, consequence + alone, f"refused: {proof}: fn tia::a::f: no proof: `search` did not prove `add`"),
             (1, "", "unknown: exit status 1"),
             (2, "rt: no room", "unknown: exit status 2: rt: no room"),
         ):

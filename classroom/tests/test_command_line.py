@@ -133,7 +133,7 @@ MISTAKES = [
 def setUpModule():
     """Fails where the programs are not built from the sources that are there."""
     if programs.is_stale():
-        raise AssertionError(f"not built: build with 'rt check {' '.join(BUILT)}'")
+        raise AssertionError(f"not built: build with 'tools/build {' '.join(BUILT)}'")
 
 
 def environment(**more):

@@ -1,5 +1,5 @@
-"""Tests of the programs' building, in a small project of its own whose `rt` is a script that proves nothing, and of what is told
-when a program fails. Needs target/bin. Run: python3 -m unittest classroom.tests.test_programs"""
+"""Tests of the programs' building, in a small project of its own whose `tools/build` calls a script `rt` that proves nothing, and of
+what is told when a program fails. Needs target/bin. Run: python3 -m unittest classroom.tests.test_programs"""
 
 import os
 import pty
@@ -35,10 +35,12 @@ AS_THEY_ARE = "the programs are older than their sources, and 'rt' is missing: t
 NO_END = "target/bin/listing: found {} at the listing's end: expected latches or a refusal"
 WAITING = "the programs are being built by another call: waiting for it"
 
-CHECK = "check line_bytes listing clock_bytes card_bytes"
+BUILD = "line_bytes listing clock_bytes card_bytes"
 
 # The programs' crates, in the order in which they are proved.
-CRATES = ("laws", "counter", "mirror", "tia", "tape", "replay", "line_bytes", "listing_text", "listing", "clock_bytes", "card_bytes")
+CRATES = (
+    "laws", "counter", "mirror", "tia", "tape", "replay", "streams", "line_bytes", "listing_text", "listing", "clock_bytes", "card_bytes",
+)  # fmt: skip
 COUNT = len(CRATES)
 PROVED = "".join(f"echo 'rt: {crate} proved (0 s)'\n" for crate in CRATES)
 INSTALLED = f"cp {PROJECT}/target/bin/* target/bin\necho 'rt: ok, {COUNT} crates proved'\n"
@@ -60,7 +62,7 @@ def stands_on():
 
 
 class Project(unittest.TestCase):
-    """A project in a folder of its own: the command, the crates' files, and as `rt` a shell script."""
+    """A project in a folder of its own: the command, the crates' files, and shell scripts as `rt` and as what calls it."""
 
     def setUp(self):
         folder = tempfile.TemporaryDirectory()
@@ -72,6 +74,9 @@ class Project(unittest.TestCase):
         shutil.copy(PROJECT / "docs/REFUSALS.md", self.folder / "docs")
         (self.folder / "target/bin").mkdir(parents=True)
         (self.folder / "commands").mkdir()
+        (self.folder / "tools").mkdir()
+        (self.folder / "tools/build").write_text('#!/bin/sh\nexec rt "$@"\n')
+        (self.folder / "tools/build").chmod(0o755)
         shutil.copy(PROJECT / "crates.txt", self.folder)
         os.utime(self.folder / "crates.txt", (OLD, OLD))
         for crate in stands_on():
@@ -232,7 +237,7 @@ class Building(Project):
         told = [f"  {number} of {COUNT} crates proved: {crate}" for number, crate in enumerate(CRATES, start=1)]
         self.assertEqual(errors[1:-1], told)
         self.assertRegex(errors[-1], LAST)
-        self.assertEqual(self.calls(), [CHECK])
+        self.assertEqual(self.calls(), [BUILD])
 
     def test_crates_that_are_unchanged_count(self):
         self.rt("echo 'rt: laws proved (unchanged since it was last proved)'\n" + INSTALLED)
@@ -251,11 +256,11 @@ class Building(Project):
     def test_a_verb_that_needs_programs_builds_all_once(self):
         self.rt(INSTALLED)
         for words, expected in (
-            (["list", "mine.txt"], [CHECK]),
-            (["look", "mine.txt"], [CHECK]),
-            (["step", "mine.txt", "--line", "0"], [CHECK]),
-            (["picture", "mine.txt", "-o", "out.png"], [CHECK]),
-            (["page", "mine.txt", "-o", "out.html"], [CHECK]),
+            (["list", "mine.txt"], [BUILD]),
+            (["look", "mine.txt"], [BUILD]),
+            (["step", "mine.txt", "--line", "0"], [BUILD]),
+            (["picture", "mine.txt", "-o", "out.png"], [BUILD]),
+            (["page", "mine.txt", "-o", "out.html"], [BUILD]),
             (["assemble", "mine.txt", "-o", "mine.tape"], []),
             (["disassemble", "mine.tape"], []),
         ):
@@ -264,22 +269,19 @@ class Building(Project):
             self.assertEqual(self.run_command(*words)[0], 0, words)
             self.assertEqual(self.calls(), expected, words)
 
-    def test_a_missing_program_is_linked_again(self):
-        stamps = self.folder / "target/stamp"
-        stamps.mkdir()
+    def test_a_missing_program_is_put_back(self):
         self.built()
         (self.folder / "target/bin/clock_bytes").unlink()
-        for name in (*BUILT, "tia"):
-            (stamps / name).write_text("")
-        self.rt(f"test -e target/stamp/clock_bytes && exit\n{INSTALLED}")
+        self.rt(INSTALLED)
         self.assertEqual(self.run_command("list", "mine.txt")[:2], (0, LISTING))
-        self.assertEqual(sorted(path.name for path in stamps.iterdir()), ["card_bytes", "line_bytes", "listing", "tia"])
+        self.assertEqual(self.calls(), [BUILD])
+        self.assertEqual(programs.missing(), [])
 
     def test_a_build_that_leaves_no_program(self):
         self.rt(PROVED)
         status, output, errors = self.run_command("list", "mine.txt")
         self.assertEqual((status, output), (1, ""))
-        message = f"'rt {CHECK}' left no line_bytes: remove the folder {self.folder}/target and call again"
+        message = f"'tools/build {BUILD}' left no line_bytes: remove the folder {self.folder}/target and call again"
         self.assertEqual(errors[-1], message)
 
     def test_stale_after_a_source_is_newer_and_fresh_after_the_build(self):
@@ -296,7 +298,7 @@ class Building(Project):
         for words in (["list"], ["picture", "-o", "out.png"]):
             status, output, errors = self.run_command(*words, "mine.txt")
             self.assertEqual((status, output), (1, ""))
-            message = f"the programs could not be built: run 'rt {CHECK}' in the folder {self.folder} to see why"
+            message = f"the programs could not be built: run 'tools/build {BUILD}' in the folder {self.folder} to see why"
             self.assertEqual(errors[-1], message)
         self.assertFalse((self.folder / "out.png").exists())
 
@@ -331,7 +333,7 @@ class Building(Project):
             output, errors = process.communicate(timeout=20)
             self.assertEqual((process.returncode, output.decode()), (0, LISTING))
         self.assertEqual(errors, b"")
-        self.assertEqual(self.calls(), [CHECK])
+        self.assertEqual(self.calls(), [BUILD])
 
 
 class Bar(Project):

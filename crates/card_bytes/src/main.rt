@@ -59,5 +59,5 @@ fn emit(rt: &impl Print, values: &[u8], bytes: &[u8]) -> io::Result<()>
 
 // Fills both cards and writes them.
 fn main(rt: HostRuntime) -> io::Result<()> {
-    emit(&rt, &counter_card(), &mirror_card())
+    streams::unless_closed(emit(&rt, &counter_card(), &mirror_card()))
 }

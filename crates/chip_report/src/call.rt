@@ -26,7 +26,7 @@ pub(crate) fn lent_of(byte: u8) -> usize
 pub(crate) fn read_part(reader: &mut impl Read, room: &mut [u8], count: usize)
     requires { count ≤ length room.old }
 {
-    input::read_full(reader, &mut room[0..count]);
+    streams::read_full(reader, &mut room[0..count]);
 }
 
 // The byte after a byte, 255 going to 0.

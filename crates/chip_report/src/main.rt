@@ -40,22 +40,26 @@ fn row(
 fn next(rt: &impl Print, reader: &mut impl Read, number: u32) -> io::Result<bool> {
     let mut kind = [0u8; 1];
     let mut record = [0u8; 73];
-    if input::read_full(reader, &mut kind) < 1 {
+    if streams::read_full(reader, &mut kind) < 1 {
         return Ok(false);
     }
-    if input::read_full(reader, &mut record) < 73 {
+    if streams::read_full(reader, &mut record) < 73 {
         return Ok(false);
     }
     row(rt, reader, kind[0], number, &record)
 }
 
 // A row for each case.
-fn main(rt: HostRuntime) -> io::Result<()> {
-    let mut reader = rt.reader();
+fn report(rt: &impl Print, reader: &mut impl Read) -> io::Result<()> {
     for number in 0..MOST {
-        if !next(&rt, &mut reader, number)? {
+        if !next(rt, reader, number)? {
             return Ok(());
         }
     }
     Ok(())
+}
+
+// Answers the cases on standard input.
+fn main(rt: HostRuntime) -> io::Result<()> {
+    streams::unless_closed(report(&rt, &mut rt.reader()))
 }

@@ -29,7 +29,7 @@ impl Run {
     // The run after one more call of the record.
     fn read(self, reader: &mut impl Read, first: u8) -> Run {
         let mut lengths = [0u8; 4];
-        input::read_full(reader, &mut lengths);
+        streams::read_full(reader, &mut lengths);
         let mut space = [0u8; 4096];
         let length = length_of(lengths[2], lengths[3]);
         read_part(reader, &mut space, length);

@@ -84,7 +84,7 @@ pub(crate) fn row(
     record: &[u8; 73],
 ) -> io::Result<()> {
     let mut head = [0u8; 8];
-    input::read_full(reader, &mut head);
+    streams::read_full(reader, &mut head);
     let high = four(record[71], record[72], head[0], head[1]);
     let at = high * 4294967296 + four(head[2], head[3], head[4], head[5]);
     let mut space = [0u8; 4096];

@@ -97,7 +97,7 @@ pub(crate) fn row(
     record: &[u8; 73],
 ) -> io::Result<()> {
     let mut writes = [0u8; 192];
-    input::read_full(reader, &mut writes);
+    streams::read_full(reader, &mut writes);
     heading(rt, b"walk ", n)?;
     hex(rt, digest_of(state_from(record), &writes))?;
     text(rt, b"\n")

@@ -127,9 +127,9 @@ fn show_input(rt: &impl Print, input: &[u8]) -> io::Result<()>
 // Reads the input and shows the clocks of its line; nothing is written where the tape is too long.
 fn main(rt: HostRuntime) -> io::Result<()> {
     let mut room = [0u8; ROOM];
-    let count = input::read_full(&mut rt.reader(), &mut room);
+    let count = streams::read_full(&mut rt.reader(), &mut room);
     if count < ROOM {
-        return show_input(&rt, &room[..count]);
+        return streams::unless_closed(show_input(&rt, &room[..count]));
     }
     Ok(())
 }

@@ -82,10 +82,15 @@ fn row(rt: &impl Print, input: u8) -> io::Result<()> {
 }
 
 // The heading, then a row for each byte.
-fn main(rt: HostRuntime) -> io::Result<()> {
-    text(&rt, b"input horizontal position value count\n")?;
+fn report(rt: &impl Print) -> io::Result<()> {
+    text(rt, b"input horizontal position value count\n")?;
     for input in 0..=255u8 {
-        row(&rt, input)?;
+        row(rt, input)?;
     }
     Ok(())
+}
+
+// Writes the report.
+fn main(rt: HostRuntime) -> io::Result<()> {
+    streams::unless_closed(report(&rt))
 }

@@ -56,9 +56,9 @@ fn show_lines(rt: &impl Print, tape: &[u8]) -> io::Result<()>
 // Reads the tape and shows its lines; nothing is written for one that is too long.
 fn main(rt: HostRuntime) -> io::Result<()> {
     let mut room = [0u8; ROOM];
-    let count = input::read_full(&mut rt.reader(), &mut room);
+    let count = streams::read_full(&mut rt.reader(), &mut room);
     if count <= tape::LONGEST_TAPE {
-        return show_lines(&rt, &room[..count]);
+        return streams::unless_closed(show_lines(&rt, &room[..count]));
     }
     Ok(())
 }

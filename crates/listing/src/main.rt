@@ -50,6 +50,6 @@ fn list(rt: &impl Print, tape: &[u8]) -> io::Result<()> {
 // Reads the tape and lists it. What lies beyond the room is not read: the tape is too long then.
 fn main(rt: HostRuntime) -> io::Result<()> {
     let mut room = [0u8; ROOM];
-    let count = input::read_full(&mut rt.reader(), &mut room);
-    list(&rt, &room[..count])
+    let count = streams::read_full(&mut rt.reader(), &mut room);
+    streams::unless_closed(list(&rt, &room[..count]))
 }

@@ -41,10 +41,10 @@ fn show(rt: &impl Print, count: u32, writes: &[u8]) -> io::Result<()> {
 // Reads the count and the write list; with fewer than four bytes no call is made.
 fn main(rt: HostRuntime) -> io::Result<()> {
     let mut room = [0u8; ROOM];
-    let length = input::read_full(&mut rt.reader(), &mut room);
+    let length = streams::read_full(&mut rt.reader(), &mut room);
     if length < 4 {
-        return show(&rt, 0, &room[..0]);
+        return streams::unless_closed(show(&rt, 0, &room[..0]));
     }
     let count = big_endian(room[0], room[1], room[2], room[3]);
-    show(&rt, count, &room[4..length])
+    streams::unless_closed(show(&rt, count, &room[4..length]))
 }

@@ -1,6 +1,6 @@
 -- `read_full` stays within its room and ends: each turn but the last reads at least a byte.
 use Rattle.std.proofs.Common.{length, ◌-◌, ◌≤◌, ◌≡◌}
-use Rattle.input.proofs.read_full.Given as goal
+use Rattle.streams.proofs.read_full.Given as goal
 
 abbrev pub invariant-loop-done : goal.invariant-loop-done
 invariant-loop-done g l = (l.done ≤ length l.room) × (length l.room ≡ length l.initial.room)
