@@ -22,7 +22,7 @@ DECLARED = re.compile(
 ODD = re.compile(r"[a-z0-9₀-₉'][A-Z]|-")
 PAGES = ("README.md", "CONTRIBUTING.md", "docs/DECISIONS.md", "docs/PROMISES.md", "docs/REFUSALS.md", "docs/TRACE.md", "docs/VALIDATION.md", "docs/SPEED.md", "second/README.md")
 # Names that would fall together with a word of the library or with another name, and what they are called.
-INSTEAD = {"recordOf": "record_bytes_of", "fourBytes": "four_bytes_of"}
+INSTEAD = {"recordOf": "record_bytes_of", "fourBytes": "four_bytes_of", "extra-pulses": "extra_pulses_of", "first-lit": "first_lit_in"}
 
 
 def in_snake_case(name):
@@ -71,8 +71,8 @@ def table():
         if path.endswith(".antt"):
             names.update(declared(git("show", "HEAD:" + path), is_of_a_function(path)))
     defined = {in_snake_case(n) for n in names if "-" not in n}
-    new = {n: INSTEAD.get(n, in_snake_case(n)) for n in names}
-    return {n: s + "_lem" if "-" in n and s in defined else s for n, s in new.items()}
+    new = {n: in_snake_case(n) for n in names}
+    return {n: INSTEAD.get(n, s + "_lem" if "-" in n and s in defined else s) for n, s in new.items()}
 
 
 def turned(text, names, behind):

@@ -66,16 +66,16 @@ pub data Question : Type 0 where
   value_of_count : ℕ → Question
   count_of_value : ℕ → Question
   step_from : Kind → ℕ → Question
-  extra_pulses_lem : ℕ → Question
-  first_lit_lem : (object : ℕ) → List (List ℕ) → Question
+  extra_pulses_of : ℕ → Question
+  first_lit_in : (object : ℕ) → List (List ℕ) → Question
   blank_columns : List (List ℕ) → Question
 
 abbrev pub answer_to : Question → Answer
 answer_to (value_of_count n) = value_answer n
 answer_to (count_of_value v) = count_answer v
 answer_to (step_from k v) = step_answer k v
-answer_to (extra_pulses_lem m) = given (extra_pulses m)
-answer_to (first_lit_lem o ls) = given (first_lit o ls)
+answer_to (extra_pulses_of m) = given (extra_pulses m)
+answer_to (first_lit_in o ls) = given (first_lit o ls)
 answer_to (blank_columns ls) = given (count_blank (last_line start_state ls).objects)
 
 -- A case: what is asked, and the value that document 01 claims for it.
@@ -103,28 +103,28 @@ cases =
     ∷ claim (step_from horizontal 0b111111) 0b000000
     ∷ claim (step_from position 0b111111) 0b000000
     -- Extra pulses for half bytes 0, 7, 8, 15: 8, 15, 0, 7.
-    ∷ claim (extra_pulses_lem 0) 8
-    ∷ claim (extra_pulses_lem 7) 15
-    ∷ claim (extra_pulses_lem 8) 0
-    ∷ claim (extra_pulses_lem 15) 7
+    ∷ claim (extra_pulses_of 0) 8
+    ∷ claim (extra_pulses_of 7) 15
+    ∷ claim (extra_pulses_of 8) 0
+    ∷ claim (extra_pulses_of 15) 7
     -- From the start state, missile 0 enabled, strobed at clock 30: the next line lights column 3. At clock 100: column 36.
-    ∷ claim (first_lit_lem (number_of M0) (missile_at 30 ∷ [] ∷ [])) 3
-    ∷ claim (first_lit_lem (number_of M0) (missile_at 100 ∷ [] ∷ [])) 36
+    ∷ claim (first_lit_in (number_of M0) (missile_at 30 ∷ [] ∷ [])) 3
+    ∷ claim (first_lit_in (number_of M0) (missile_at 100 ∷ [] ∷ [])) 36
     -- Ball enabled at 0, strobed at 100: column 36 on that same line.
-    ∷ claim (first_lit_lem (number_of BL) ((0 ∷ ENABL ∷ 0b10 ∷ 100 ∷ RESBL ∷ 0 ∷ []) ∷ [])) 36
+    ∷ claim (first_lit_in (number_of BL) ((0 ∷ ENABL ∷ 0b10 ∷ 100 ∷ RESBL ∷ 0 ∷ []) ∷ [])) 36
     -- Player 0, graphic 255 written at 0, strobed at 100: column 37, next line.
-    ∷ claim (first_lit_lem (number_of P0) ((0 ∷ GRP0 ∷ 255 ∷ 100 ∷ RESP0 ∷ 0 ∷ []) ∷ [] ∷ [])) 37
+    ∷ claim (first_lit_in (number_of P0) ((0 ∷ GRP0 ∷ 255 ∷ 100 ∷ RESP0 ∷ 0 ∷ []) ∷ [] ∷ [])) 37
     -- Missile at column 36, HMOVE at 9: half bytes 7, 15, 8 give 29, 37, 44. At column 3, 7 gives 156.
-    ∷ claim (first_lit_lem (number_of M0) (missile_at 100 ∷ hmove_at 9 7 ∷ [])) 29
-    ∷ claim (first_lit_lem (number_of M0) (missile_at 100 ∷ hmove_at 9 15 ∷ [])) 37
-    ∷ claim (first_lit_lem (number_of M0) (missile_at 100 ∷ hmove_at 9 8 ∷ [])) 44
-    ∷ claim (first_lit_lem (number_of M0) (missile_at 30 ∷ hmove_at 9 7 ∷ [])) 156
+    ∷ claim (first_lit_in (number_of M0) (missile_at 100 ∷ hmove_at 9 7 ∷ [])) 29
+    ∷ claim (first_lit_in (number_of M0) (missile_at 100 ∷ hmove_at 9 15 ∷ [])) 37
+    ∷ claim (first_lit_in (number_of M0) (missile_at 100 ∷ hmove_at 9 8 ∷ [])) 44
+    ∷ claim (first_lit_in (number_of M0) (missile_at 30 ∷ hmove_at 9 7 ∷ [])) 156
     -- HMOVE at 15 with 7 moves 7 left; at 16, 6 left.
-    ∷ claim (first_lit_lem (number_of M0) (missile_at 100 ∷ hmove_at 15 7 ∷ [])) 29
-    ∷ claim (first_lit_lem (number_of M0) (missile_at 100 ∷ hmove_at 16 7 ∷ [])) 30
+    ∷ claim (first_lit_in (number_of M0) (missile_at 100 ∷ hmove_at 15 7 ∷ [])) 29
+    ∷ claim (first_lit_in (number_of M0) (missile_at 100 ∷ hmove_at 16 7 ∷ [])) 30
     -- With 0: at 67, 6 right; at 68, nothing; at 227, 8 left and the next line has no blank columns.
-    ∷ claim (first_lit_lem (number_of M0) (missile_at 100 ∷ hmove_at 67 0 ∷ [])) 42
-    ∷ claim (first_lit_lem (number_of M0) (missile_at 100 ∷ hmove_at 68 0 ∷ [])) 36
-    ∷ claim (first_lit_lem (number_of M0) (missile_at 100 ∷ hmove_at 227 0 ∷ [] ∷ [])) 28
+    ∷ claim (first_lit_in (number_of M0) (missile_at 100 ∷ hmove_at 67 0 ∷ [])) 42
+    ∷ claim (first_lit_in (number_of M0) (missile_at 100 ∷ hmove_at 68 0 ∷ [])) 36
+    ∷ claim (first_lit_in (number_of M0) (missile_at 100 ∷ hmove_at 227 0 ∷ [] ∷ [])) 28
     ∷ claim (blank_columns (missile_at 100 ∷ hmove_at 227 0 ∷ [] ∷ [])) 0
     ∷ []
