@@ -1,6 +1,5 @@
 -- `show_line` is safe, ends, and writes the records in turn: before each clock the state is that before it.
 use borrow.Author.Rules.{rules}
-use Rattle.tia.specs.WriteList.{write_at}
 use Rattle.clock_bytes.proofs.ShowLaws.{before_first, clock_record, clock_next}
 use Rattle.clock_bytes.proofs.show_line.Goals as goal
 
