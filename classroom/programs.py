@@ -124,7 +124,7 @@ def crates_of(programs):
 def prove():
     """Proves and builds the programs and says on standard error how far it is. Fails with Failure."""
     total = len(crates_of(PROGRAMS))
-    print(f"building the programs: {total} crates are proved first, which may take two minutes", file=sys.stderr)
+    print(f"building the programs: {total} crates are proved first, which may take five minutes", file=sys.stderr)
     begun = time.monotonic()
     command = ["tools/build", *PROGRAMS]
     with subprocess.Popen(command, cwd=PROJECT, stdout=subprocess.PIPE, stderr=subprocess.STDOUT) as process:
