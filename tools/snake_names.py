@@ -33,7 +33,7 @@ def in_snake_case(name):
 def declared(text, of_a_function):
     """The names that a file declares, those of a function's goals left out."""
     for m in DECLARED.finditer(text):
-        if of_a_function and (m[3].lstrip().startswith("tie.") or "statement M" in m[3] or m[3].lstrip().startswith("{M")):
+        if of_a_function and (m[3].lstrip().startswith(("tie.", "goal.")) or "statement M" in m[3] or m[3].lstrip().startswith("{M")):
             continue
         for name in m[1].split():
             if ODD.search(name) and re.match(r"[a-z]", name) and re.fullmatch(r"[\w'-]+", name):
