@@ -1,31 +1,32 @@
 #!/usr/bin/env python3
-"""Brings the names of this repository's own definitions and lemmas to snake case, once, after port.py and before its result is committed.
+"""Brings the names of this repository's own definitions and laws to snake case, once, after port.py and before its result is committed.
 
 usage: python3 tools/snake_names.py     at the top of the repository
 
 Types, facts and modules keep upper camel case; every other name that specs/ or proofs/ declares has underscores, as `stepAnswer` and
-`card-agrees` become `step_answer` and `card_agrees`; a lemma that would get the name of a definition has `_lem` behind it. Names turn as whole words in .antt and .rt files, in must-fail edits and in the code
-spans of the pages. Names of source functions, generated names and names of the library stay. A name that would meet another is printed,
-and nothing is written then.
+`card-agrees` become `step_answer` and `card_agrees`; a law that would get the name of a definition has `_lem` behind it. Names turn as whole
+words in .antt and .rt files, in must-fail edits and in the code spans of the pages. Names of source functions, generated names and names of the
+library stay. A name that would meet another in a file is printed, and nothing is written then.
 """
 
 import collections
 import os
 import re
 import subprocess
-import sys
 
 WORD = r"[^\s(){}.;,@\"«»`]+"
 DECLARED = re.compile(
     r"(?m)^ *(?:(?:abbrev|unfoldable|pub|record|data|opaque|let) )*([^\s(){}.;,@\"«»]+(?: [a-z][^\s(){}.;,@\"«»:]*)*)((?: [({][^{}()\n]*[)}])*) :(?!:)(.*)$"
 )
 ODD = re.compile(r"[a-z0-9₀-₉'][A-Z]|-")
-PAGES = ("README.md", "CONTRIBUTING.md", "docs/DECISIONS.md", "docs/PROMISES.md", "docs/REFUSALS.md", "docs/TRACE.md", "docs/VALIDATION.md", "docs/SPEED.md", "second/README.md")
+DOCS = ("DECISIONS", "PROMISES", "REFUSALS", "TRACE", "VALIDATION", "SPEED")
+PAGES = ("README.md", "CONTRIBUTING.md", *(f"docs/{name}.md" for name in DOCS), "second/README.md")
 # Names that would fall together with a word of the library or with another name, and what they are called.
 INSTEAD = {"recordOf": "record_bytes_of", "fourBytes": "four_bytes_of", "extra-pulses": "extra_pulses_of", "first-lit": "first_lit_in"}
 
 
 def in_snake_case(name):
+    """A name with underscores."""
     words = re.sub(r"(?<=[a-z0-9₀-₉'])[A-Z]+", lambda m: "_" + m[0].lower(), name)
     return words.replace("-", "_")
 
@@ -41,15 +42,18 @@ def declared(text, of_a_function):
 
 
 def is_of_a_function(path):
+    """Whether a file belongs to the proof of one function."""
     parts = path.split("/")
     return "proofs" in parts and len(parts) - parts.index("proofs") > 2
 
 
 def git(*words):
+    """What a command of git prints."""
     return subprocess.run(["git", *words], capture_output=True, text=True, check=True).stdout
 
 
 def files():
+    """The texts of the crates."""
     for folder, dirs, names in os.walk("crates"):
         dirs[:] = sorted(d for d in dirs if d != "out")
         for name in sorted(names):
@@ -58,11 +62,13 @@ def files():
 
 
 def read(path):
+    """A file's text."""
     with open(path, encoding="utf-8") as f:
         return f.read()
 
 
 def table():
+    """The names to turn, each with its new spelling: those of the tree and those of the last commit, which port.py may have turned."""
     names = set()
     for path in files():
         if path.endswith(".antt"):
@@ -76,7 +82,7 @@ def table():
 
 
 def turned(text, names, behind):
-    """The text with the names turned, as whole words; behind: also right after a dot that follows one letter."""
+    """The text with the names turned, as whole words; `behind`: also behind a dot that follows a name of one letter."""
 
     def put(m):
         if not behind and re.search(r"(?<![\w'.])(?:[a-z]|tie|goal)(?:\.[^\s(){},;]*)?\.$", text[max(0, m.start() - 80) : m.start()]):
@@ -87,10 +93,12 @@ def turned(text, names, behind):
 
 
 def turned_spans(text, names):
+    """A page's text with the names turned in its code spans."""
     return re.sub(r"`[^`\n]+`", lambda m: re.sub(r"[\w'-]+", lambda w: names.get(w[0], w[0]), m[0]), text)
 
 
 def main():
+    """Turns the names; exit status 1 if two would meet."""
     names = table()
     words = collections.defaultdict(set)
     for path in files():
@@ -102,11 +110,12 @@ def main():
     for old, new in names.items():
         by_new[new].add(old)
     for new, olds in sorted(by_new.items()):
-        both = [p for p in words.get(new, ()) if p.endswith(".antt") and not is_of_a_function(p) and any(p in words.get(o, ()) for o in olds)]
+        laws = [p for p in words.get(new, ()) if p.endswith(".antt") and not is_of_a_function(p)]
+        both = [p for p in laws if any(p in words.get(old, ()) for old in olds)]
         if len(olds) > 1 or both:
             print("meets:", new, sorted(olds), both[:4])
             meets += 1
-    if meets and "--anyway" not in sys.argv:
+    if meets:
         return 1
     for path in files():
         text = read(path)

@@ -1,21 +1,32 @@
 // Reading from a stream into a room that is lent, and how writing to one has ended.
 #![tactic(auto)]
 
-ghost use Rattle.std.specs.Prelude.{◌≡◌, ◌≢◌, ◌≤◌, length, IsOk, OnOk, IfErr};
+ghost use Rattle.std.specs.Prelude.{◌≡◌, ◌≢◌, ◌≤◌, length, take, IsOk, OnOk, IfErr};
+ghost use Rattle.std.specs.Io.KnownBytes.{Consumes};
 ghost use Rattle.std.specs.IoError.{error_kind};
 
 use std::io::{self, ErrorKind, Read};
 
-// Reads until the room is full, the input ends or a read fails, and answers how many bytes stand at the room's start.
+// Reads once, and answers how many bytes stand at the room's start; 0 where the read fails.
+fn read_once<R: Read>(reader: &mut R, room: &mut [u8]) -> usize
+    ensures within { result ≤ length room.new }
+    ensures bytes { Consumes (R.remaining reader.old) (R.remaining reader.new) (take result room.new) }
+{
+    match reader.read(room) {
+        Ok(count) => count,
+        Err(_) => 0,
+    }
+}
+
+// Reads until the room is full, the input ends or a read fails, and answers how many bytes stand at the room's start: the next ones
+// of the reader, where these are known.
 pub fn read_full<R: Read>(reader: &mut R, room: &mut [u8]) -> usize
-    ensures { result ≤ length room.new }
+    ensures within { result ≤ length room.new }
+    ensures bytes { Consumes (R.remaining reader.old) (R.remaining reader.new) (take result room.new) }
 {
     let mut done = 0;
     while done < room.len() {
-        let count = match reader.read(&mut room[done..]) {
-            Ok(count) => count,
-            Err(_) => 0,
-        };
+        let count = read_once(reader, &mut room[done..]);
         if count == 0 {
             break;
         }

@@ -205,7 +205,11 @@ module _ (line : LineCall) (meets : Meets line) where
   run_apart s t (p ∷ ps) same good-s good-t agree =
       let one = pair_apart s t p.one p.other same good-s good-t agree.0 agree.1.0 in (
         one.0,
-        (one.1, run_apart (line s p.one).answer.state (line t p.other).answer.state ps one.1 (call_good line meets s p.one good-s) (call_good line meets t p.other good-t) agree.1.1),
+        (
+          one.1,
+          run_apart (line s p.one).answer.state (line t p.other).answer.state ps one.1 (call_good line meets s p.one good-s)
+              (call_good line meets t p.other good-t) agree.1.1,
+        ),
       )
 
 -- Colours disturb nothing.

@@ -89,7 +89,9 @@ list_decided rs n bad =
 
 -- It gives no other number but 0, and 0 with index 0.
 abbrev pub of_record : ℕ → ℕ
-of_record n = cond (eqb n for_clock_over) for_clock_over (cond (eqb n for_clock_order) for_clock_order (cond (eqb n for_unknown_register) for_unknown_register 0))
+of_record n =
+    cond (eqb n for_clock_over) for_clock_over
+    (cond (eqb n for_clock_order) for_clock_order (cond (eqb n for_unknown_register) for_unknown_register 0))
 
 record_number : (least : ℕ) (r : TimedWrite) → fault_of least r ≡ of_record (fault_of least r)
 unfolding record_fault

@@ -18,7 +18,8 @@ use Rattle.tia.specs.declared.state.Objects.{Objects}
 use Rattle.tia.specs.declared.timing.Tick.{Tick}
 use Rattle.tia.specs.declared.timing.Timing.{Timing}
 use Rattle.tia.specs.declared.write.Write.{Write}
-use Rattle.tia.specs.Write.{ByteWritten, NUSIZ0, NUSIZ1, COLUP0, COLUP1, COLUPF, COLUBK, CTRLPF, REFP0, REFP1, PF0, PF1, PF2, GRP0, GRP1, HMBL, HMM0, HMM1, HMP0, HMP1, RESBL}
+use Rattle.tia.specs.Write.{ByteWritten, NUSIZ0, NUSIZ1, COLUP0, COLUP1, COLUPF, COLUBK, CTRLPF, REFP0, REFP1}
+use Rattle.tia.specs.Write.{PF0, PF1, PF2, GRP0, GRP1, HMBL, HMM0, HMM1, HMP0, HMP1, RESBL}
 use Rattle.tia.specs.Write.{RESM0, RESM1, RESP0, RESP1, VDELP0, VDELP1, HMOVE, HMCLR, hits, byte_of}
 use Rattle.tia.specs.Registers.{upper, nusiz_after, graphic_after, playfield_after, registers_after, colours_after}
 use Rattle.tia.specs.Drawing.{no_drawing, drawing_age, next_pixel, shown_again, gone_on, next_drawing}

@@ -20,7 +20,8 @@ use Rattle.tia.specs.declared.write_list.Fault.{Fault}
 use Rattle.tia.specs.Write.{unknown}
 use Rattle.tia.specs.State.{in_range, live_at_rest, bad_state}
 use Rattle.tia.specs.Clock.{clock_of}
-use Rattle.laws.specs.Numbers.{bad_length, for_bad_state, for_line_clock, for_buffer_length, for_list_length, for_clock_over, for_clock_order, for_unknown_register, for_no_such, for_colour_length}
+use Rattle.laws.specs.Numbers.{bad_length, for_bad_state, for_line_clock, for_buffer_length, for_list_length}
+use Rattle.laws.specs.Numbers.{for_clock_over, for_clock_order, for_unknown_register, for_no_such, for_colour_length}
 use Rattle.tia.specs.WriteList.{TimedWrite, records_of, first_fault, fault_at, list_fault}
 use Rattle.tia.specs.FirstLit.{shows, first_from, first_lit_of, column_answer, first_lit_answer}
 use Rattle.tia.specs.Answers.{bad_state_row, unknown_register_row, refused_clock, given_clock, clock_answer, refused_read_out, given_read_out}

@@ -6,7 +6,8 @@ use Rattle.tia.specs.declared.first_lit.FirstLit.{FirstLit}
 use Rattle.tia.specs.declared.first_lit.FirstLit.TheVariants.{Column, Unlit, Refused}
 use Rattle.tia.specs.declared.state.State.{State}
 use Rattle.tia.specs.Write.{known}
-use Rattle.laws.specs.Numbers.{BadLength, for_line_clock, for_buffer_length, for_list_length, for_clock_over, for_clock_order, for_unknown_register, for_no_such, for_colour_length}
+use Rattle.laws.specs.Numbers.{BadLength, for_line_clock, for_buffer_length, for_list_length}
+use Rattle.laws.specs.Numbers.{for_clock_over, for_clock_order, for_unknown_register, for_no_such, for_colour_length}
 use Rattle.tia.specs.Object.{columns}
 use Rattle.tia.specs.WriteList.{TimedWrite, records_of}
 use Rattle.tia.specs.Line.{Rooms}
