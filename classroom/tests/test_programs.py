@@ -39,7 +39,7 @@ BUILD = "line_bytes listing clock_bytes card_bytes"
 
 # The programs' crates, in the order in which they are proved.
 CRATES = (
-    "laws", "counter", "mirror", "tia", "tape", "replay", "streams", "line_bytes", "listing_text", "listing", "clock_bytes", "card_bytes",
+    "laws", "refusal", "counter", "mirror", "tia", "tape", "replay", "streams", "line_bytes", "listing_text", "listing", "clock_bytes", "card_bytes",
 )  # fmt: skip
 COUNT = len(CRATES)
 PROVED = "".join(f"echo 'rt: {crate} proved (0 s)'\n" for crate in CRATES)

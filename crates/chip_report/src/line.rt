@@ -1,91 +1,95 @@
-// The row of a line call.
-use crate::call::{length_of, lent_of, line_called, read_part};
-use crate::digest::with_bytes;
-use crate::output::{decimal, heading, hex, number, text};
-use crate::state_bytes::{bytes_of, state_from};
-use std::io::{self, Print, Read};
-use tia::{FirstLit, LineAnswer};
+// The answer to a line call.
+use crate::buffers::Buffers;
+use crate::case::Case;
+use crate::digest::Digest;
+use crate::input::{Input, List};
+use crate::numbers::Numbers;
+use refusal::Refusal;
+use std::fmt;
+use std::io::Read;
+use tia::State;
 
-// The first lit column of an object: the column, `-` or the refusal.
-fn column(rt: &impl Print, buffer: &[u8], object: u8) -> io::Result<()> {
-    text(rt, b" ")?;
-    let answer = tia::first_lit_column(buffer, object);
-    match answer {
-        FirstLit::Column(x) => number(rt, x as u32),
-        FirstLit::Unlit => text(rt, b"-"),
-        FirstLit::Refused(n) => {
-            text(rt, b"refused(")?;
-            number(rt, n as u32)?;
-            text(rt, b",0)")
+// A line call: its write list, and the buffers before it.
+#[derive(Drop)]
+pub(crate) struct LineCall {
+    pub(crate) list: List,
+    pub(crate) buffers: Buffers,
+}
+
+impl LineCall {
+    // The call of four bytes: the lengths of the two buffers and the length of the list, which follows in the input.
+    pub(crate) fn read(lengths: [u8; 4], first: u8, input: &mut Input<impl Read>) -> LineCall {
+        let [length, colours_length, high, low] = lengths;
+        LineCall {
+            list: input.list(u16::from_be_bytes([high, low])),
+            buffers: Buffers::rising(first, length, colours_length),
+        }
+    }
+
+    // A call without writes, with buffers as long as a line.
+    pub(crate) fn quiet(first: u8) -> LineCall {
+        LineCall {
+            list: List::new(),
+            buffers: Buffers::rising(first, 160, 160),
+        }
+    }
+
+    // Makes the call.
+    pub(crate) fn make(&mut self, state: &mut State) -> Numbers<2> {
+        let answer = tia::line(
+            state,
+            &self.list,
+            &mut self.buffers.bytes,
+            &mut self.buffers.colours,
+        );
+        answer.into()
+    }
+}
+
+// The objects whose first lit columns are asked for: the chip's six, and two that there are not.
+const OBJECTS: [u8; 8] = [0, 1, 2, 3, 4, 5, 6, 255];
+
+// The first lit column of an object: the column, `-` where there is none, or the refusal.
+#[derive(Clone, Copy)]
+struct Column(Result<Option<u8>, Refusal>);
+
+impl fmt::Display for Column {
+    fn fmt<W: fmt::Write>(&self, f: &mut fmt::Formatter<W>) -> fmt::Result {
+        match self.0 {
+            Ok(Some(column)) => write!(f, "{column}"),
+            Ok(None) => f.write_str("-"),
+            Err(refusal) => write!(f, "refused({},0)", u8::from(refusal)),
         }
     }
 }
 
-// The first lit columns of the objects 0 to 6, and what object 255 is answered.
-fn columns(rt: &impl Print, buffer: &[u8]) -> io::Result<()> {
-    for object in 0..7u8 {
-        column(rt, buffer, object)?;
+// The call's numbers, the digest of the state after it, and its buffers after it.
+#[derive(Drop)]
+pub(crate) struct LineAnswer {
+    line: Numbers<2>,
+    state: Digest,
+    buffers: Buffers,
+}
+
+// The answer to a line call.
+pub(crate) fn answer(case: &Case, input: &mut Input<impl Read>) -> LineAnswer {
+    let mut state = case.state;
+    let mut call = LineCall::read(case.more, case.first(), input);
+    let line = call.make(&mut state);
+    LineAnswer {
+        line,
+        state: Digest::default().with_state(state),
+        buffers: call.buffers,
     }
-    column(rt, buffer, 255)
 }
 
-// What is shown of a line call: its answer, the digests of its state and its buffers, and the first lit columns.
-fn show(
-    rt: &impl Print,
-    n: u32,
-    answer: LineAnswer,
-    buffer: &[u8],
-    colours: &[u8],
-) -> io::Result<()> {
-    let state = answer.state;
-    heading(rt, b"line ", n)?;
-    decimal(rt, answer.number)?;
-    decimal(rt, answer.index)?;
-    hex(rt, with_bytes(0, &bytes_of(state)))?;
-    text(rt, b" ")?;
-    hex(rt, with_bytes(0, buffer))?;
-    text(rt, b" ")?;
-    hex(rt, with_bytes(0, colours))?;
-    columns(rt, buffer)?;
-    text(rt, b"\n")
-}
-
-// A line call with lent buffers, and what is shown of it.
-fn called(
-    rt: &impl Print,
-    n: u32,
-    record: &[u8; 73],
-    list: &[u8],
-    buffer: &mut [u8],
-    colours: &mut [u8],
-) -> io::Result<()> {
-    let answer = line_called(state_from(record), list, buffer, colours, (n % 256) as u8);
-    show(rt, n, answer, buffer, colours)
-}
-
-// The row of a line call. Its list follows its record.
-pub(crate) fn row(
-    rt: &impl Print,
-    reader: &mut impl Read,
-    n: u32,
-    record: &[u8; 73],
-) -> io::Result<()> {
-    let mut space = [0u8; 4096];
-    let length = length_of(record[71], record[72]);
-    read_part(reader, &mut space, length);
-    let list: &[u8] = &space;
-    let mut room = [0u8; 255];
-    let buffer: &mut [u8] = &mut room;
-    let lent = lent_of(record[69]);
-    let mut colour_room = [0u8; 255];
-    let colours: &mut [u8] = &mut colour_room;
-    let colours_lent = lent_of(record[70]);
-    called(
-        rt,
-        n,
-        record,
-        &list[0..length],
-        &mut buffer[0..lent],
-        &mut colours[0..colours_lent],
-    )
+impl fmt::Display for LineAnswer {
+    fn fmt<W: fmt::Write>(&self, f: &mut fmt::Formatter<W>) -> fmt::Result {
+        write!(f, "{} {} {}", self.line, self.state, self.buffers)?;
+        for object in OBJECTS {
+            let column = tia::first_lit_column(&self.buffers.bytes, object);
+            write!(f, " {}", Column(column))?;
+        }
+        Ok(())
+    }
 }

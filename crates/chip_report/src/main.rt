@@ -2,64 +2,55 @@
 // calls, and lines of tapes.
 #![tactic(auto)]
 
-mod call;
+mod buffers;
+mod case;
+mod clock;
 mod digest;
+mod fields;
+mod input;
 mod line;
-mod output;
+mod numbers;
 mod run;
-mod single;
-mod state_bytes;
 mod tape_line;
 mod walk;
 
+use case::{Case, Kind};
+use input::Input;
+use std::fmt::Display;
 use std::io::{self, Print, Read};
 
 // The most cases that are answered.
-const MOST: u32 = 1000000;
+const MOST: u32 = 1_000_000;
 
-// The row of a case by its kind: its number among all cases, then its answer. Whether there is such a kind.
-fn row(
-    rt: &impl Print,
-    reader: &mut impl Read,
-    kind: u8,
-    number: u32,
-    record: &[u8; 73],
-) -> io::Result<bool> {
-    match kind {
-        0 => single::row(rt, number, record)?,
-        1 => walk::row(rt, reader, number, record)?,
-        2 => line::row(rt, reader, number, record)?,
-        3 => run::row(rt, reader, number, record)?,
-        4 => tape_line::row(rt, reader, number, record)?,
-        _ => return Ok(false),
-    }
-    Ok(true)
+// Prints the row of a case: its kind, its number and its answer.
+fn print_row(rt: &impl Print, case: &Case, answer: impl Display + Drop) -> io::Result<()> {
+    println!(rt; "{} {} {answer}", case.kind, case.number)
 }
 
-// The row of the next case. Whether there was one: not at the end of standard input, nor at an unknown kind.
-fn next(rt: &impl Print, reader: &mut impl Read, number: u32) -> io::Result<bool> {
-    let mut kind = [0u8; 1];
-    let mut record = [0u8; 73];
-    if streams::read_full(reader, &mut kind) < 1 {
-        return Ok(false);
+// Answers a case.
+fn answer(rt: &impl Print, case: &Case, input: &mut Input<impl Read>) -> io::Result<()> {
+    match case.kind {
+        Kind::Clock => print_row(rt, case, clock::answer(case)),
+        Kind::Walk => print_row(rt, case, walk::answer(case, input)),
+        Kind::Line => print_row(rt, case, line::answer(case, input)),
+        Kind::Run => print_row(rt, case, run::answer(case, input)),
+        Kind::Tape => print_row(rt, case, tape_line::answer(case, input)),
     }
-    if streams::read_full(reader, &mut record) < 73 {
-        return Ok(false);
-    }
-    row(rt, reader, kind[0], number, &record)
 }
 
-// A row for each case.
-fn report(rt: &impl Print, reader: &mut impl Read) -> io::Result<()> {
+// Answers each case of the input.
+fn report(rt: &impl Print, input: &mut Input<impl Read>) -> io::Result<()> {
     for number in 0..MOST {
-        if !next(rt, reader, number)? {
-            return Ok(());
-        }
+        let Some(case) = Case::next(input, number) else {
+            break;
+        };
+        answer(rt, &case, input)?;
     }
     Ok(())
 }
 
 // Answers the cases on standard input.
 fn main(rt: HostRuntime) -> io::Result<()> {
-    streams::unless_closed(report(&rt, &mut rt.reader()))
+    let mut input = Input::new(rt.reader());
+    streams::unless_closed(report(&rt, &mut input))
 }

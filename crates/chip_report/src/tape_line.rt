@@ -1,115 +1,91 @@
-// The row of a line of a tape.
-ghost use Rattle.std.specs.Prelude.{◌≤◌};
-
-use crate::call::{fill_both, length_of, lent_of, read_part};
-use crate::digest::with_bytes;
-use crate::output::{decimal, heading, hex, place, text};
-use crate::state_bytes::{bytes_of, state_from};
-use replay::Verdict;
-use std::io::{self, Print, Read};
+// The answer to a line of a tape.
+use crate::buffers::Buffers;
+use crate::case::Case;
+use crate::digest::Digest;
+use crate::input::Input;
+use refusal::Fault;
+use std::fmt;
+use std::io::Read;
 use tape::Place;
 
-// The number of four bytes, the highest first.
-fn four(a: u8, b: u8, c: u8, d: u8) -> u64
-    ensures { result ≤ 4294967295 }
-{
-    ((a as u64 * 256 + b as u64) * 256 + c as u64) * 256 + d as u64
-}
+// What reading the tape answers: the refusal's number, the line's start and end.
+#[derive(Clone, Copy)]
+struct Reading(Place);
 
-// What reading at a place answers: the refusal number, the line's start and end.
-fn read(rt: &impl Print, found: Place) -> io::Result<()> {
-    match found {
-        Place::Line { start, end } => {
-            decimal(rt, 0)?;
-            place(rt, start)?;
-            place(rt, end)
-        }
-        Place::Ended => text(rt, b"0 0 0 "),
-        Place::Refused(number) => {
-            decimal(rt, number)?;
-            text(rt, b"0 0 ")
+impl fmt::Display for Reading {
+    fn fmt<W: fmt::Write>(&self, f: &mut fmt::Formatter<W>) -> fmt::Result {
+        match self.0 {
+            Place::Line { start, end } => write!(f, "0 {start} {end}"),
+            Place::Ended => f.write_str("0 0 0"),
+            Place::Refused(refusal) => write!(f, "{} 0 0", u8::from(refusal)),
         }
     }
 }
 
-// What playing a line answers: the refusal number, the record's index and the next place.
-fn played(rt: &impl Print, verdict: Verdict) -> io::Result<()> {
-    match verdict {
-        Verdict::Played(next) => {
-            text(rt, b"0 0 ")?;
-            place(rt, next)
-        }
-        Verdict::Ended => text(rt, b"0 0 0 "),
-        Verdict::Refused { number, index } => {
-            decimal(rt, number)?;
-            decimal(rt, index)?;
-            text(rt, b"0 ")
+// What playing a line answers: the refusal's number and index, and the next place.
+#[derive(Clone, Copy)]
+struct Playing(Result<Option<usize>, Fault>);
+
+impl fmt::Display for Playing {
+    fn fmt<W: fmt::Write>(&self, f: &mut fmt::Formatter<W>) -> fmt::Result {
+        match self.0 {
+            Ok(Some(next)) => write!(f, "0 0 {next}"),
+            Ok(None) => f.write_str("0 0 0"),
+            Err(fault) => write!(f, "{} {} 0", u8::from(fault.refusal), fault.index),
         }
     }
 }
 
-// Reading and the stretch at a place of a tape.
-fn show_reading(rt: &impl Print, tape: &[u8], at: usize) -> io::Result<()> {
-    read(rt, tape::read_at(tape, at))?;
-    hex(rt, with_bytes(0, tape::stretch_at(tape, at)))?;
-    text(rt, b" ")
-}
-
-// Playing the line at a place of a tape, with lent buffers: its answer, and the digests of its state and its buffers.
-fn show_playing(
-    rt: &impl Print,
-    record: &[u8; 73],
-    tape: &[u8],
-    at: usize,
-    buffer: &mut [u8],
-    colours: &mut [u8],
-) -> io::Result<()> {
-    let answer = replay::play_line(state_from(record), tape, at, buffer, colours);
-    let verdict = answer.verdict;
-    let state = answer.state;
-    played(rt, verdict)?;
-    hex(rt, with_bytes(0, &bytes_of(state)))?;
-    text(rt, b" ")?;
-    hex(rt, with_bytes(0, buffer))?;
-    text(rt, b" ")?;
-    hex(rt, with_bytes(0, colours))?;
-    text(rt, b"\n")
-}
-
-// The row of a line of a tape. The rest of its place, the tape's length and the tape follow its record.
-pub(crate) fn row(
-    rt: &impl Print,
-    reader: &mut impl Read,
-    n: u32,
-    record: &[u8; 73],
-) -> io::Result<()> {
-    let mut head = [0u8; 8];
-    streams::read_full(reader, &mut head);
-    let high = four(record[71], record[72], head[0], head[1]);
-    let at = high * 4294967296 + four(head[2], head[3], head[4], head[5]);
-    let mut space = [0u8; 4096];
-    let length = length_of(head[6], head[7]);
-    read_part(reader, &mut space, length);
-    let tape: &[u8] = &space;
-    let mut room = [0u8; 255];
-    let buffer: &mut [u8] = &mut room;
-    let lent = lent_of(record[69]);
-    let mut colour_room = [0u8; 255];
-    let colours: &mut [u8] = &mut colour_room;
-    let colours_lent = lent_of(record[70]);
-    fill_both(
-        &mut buffer[0..lent],
-        &mut colours[0..colours_lent],
-        (n % 256) as u8,
-    );
-    heading(rt, b"tape ", n)?;
-    show_reading(rt, &tape[0..length], at as usize)?;
-    show_playing(
-        rt,
-        record,
-        &tape[0..length],
-        at as usize,
-        &mut buffer[0..lent],
-        &mut colours[0..colours_lent],
+// The place and the tape's length: of the place's eight bytes the record has two, and six follow it, then the length's two.
+fn place_and_length(case: &Case, input: &mut Input<impl Read>) -> (usize, u16) {
+    let [.., a, b] = case.more;
+    let [c, d, e, f, g, h, high, low] = input.padded::<8>();
+    (
+        usize::from_be_bytes([a, b, c, d, e, f, g, h]),
+        u16::from_be_bytes([high, low]),
     )
+}
+
+// What reading at the place answers, and the digest of the stretch there; what playing the line answers, the digest of the state
+// after it, and the buffers after it.
+#[derive(Drop)]
+pub(crate) struct TapeAnswer {
+    reading: Reading,
+    stretch: Digest,
+    playing: Playing,
+    state: Digest,
+    buffers: Buffers,
+}
+
+// The answer to a line of a tape. The place's end, the tape's length and the tape follow the record.
+pub(crate) fn answer(case: &Case, input: &mut Input<impl Read>) -> TapeAnswer {
+    let (place, length) = place_and_length(case, input);
+    let tape = input.list(length);
+    let mut state = case.state;
+    let [room, colours_room, ..] = case.more;
+    let mut buffers = Buffers::rising(case.first(), room, colours_room);
+    let played = replay::play_line(
+        &mut state,
+        &tape,
+        place,
+        &mut buffers.bytes,
+        &mut buffers.colours,
+    );
+    TapeAnswer {
+        reading: Reading(tape::read_at(&tape, place)),
+        stretch: Digest::default().with(tape::stretch_at(&tape, place)),
+        playing: Playing(played),
+        state: Digest::default().with_state(state),
+        buffers,
+    }
+}
+
+impl fmt::Display for TapeAnswer {
+    fn fmt<W: fmt::Write>(&self, f: &mut fmt::Formatter<W>) -> fmt::Result {
+        write!(
+            f,
+            "{} {} {} {} {}",
+            self.reading, self.stretch, self.playing, self.state, self.buffers
+        )
+    }
 }

@@ -1,104 +1,49 @@
-// The row of a walk: 1,000 clocks from a state, with up to 64 timed writes.
-use crate::digest::{with_byte, with_bytes};
-use crate::output::{heading, hex, text};
-use crate::state_bytes::{bytes_of, state_from};
-use std::io::{self, Print, Read};
-use tia::{ClockAnswer, State, Write};
+// The answer to a walk: 1,000 clocks from a state, with up to 64 timed writes.
+use crate::case::Case;
+use crate::digest::Digest;
+use crate::input::Input;
+use crate::numbers::{Numbers, ReadOut};
+use std::io::Read;
+use std::iter::{once, repeat, repeat_n};
+use tia::{State, Write};
 
-// How many writes a walk has, three bytes each: wait, address, value.
+// How many clocks a walk has.
+const CLOCKS: usize = 1000;
+
+// How many timed writes follow a walk's record.
 const WRITES: usize = 64;
 
-// The next write of a walk, and how many clocks come before it.
+// A walk so far: the state, and the digest of the clocks.
 #[derive(Clone, Copy)]
-struct Cursor {
-    next: usize,
-    wait: u8,
+struct Walk {
+    state: State,
+    digest: Digest,
 }
 
-impl Cursor {
-    // The cursor at a write, waiting as long as it says; past the last there is none.
-    fn at(writes: &[u8; 192], next: usize) -> Cursor {
-        if next < WRITES {
-            Cursor {
-                next,
-                wait: writes[3 * next],
-            }
-        } else {
-            Cursor {
-                next: WRITES,
-                wait: 0,
-            }
-        }
-    }
-
-    // What is written on this clock.
-    fn due(self, writes: &[u8; 192]) -> Write {
-        let next = self.next;
-        let wait = self.wait;
-        if next < WRITES {
-            if wait == 0 {
-                let at = 3 * next;
-                return Write::Register {
-                    address: writes[at + 1],
-                    value: writes[at + 2],
-                };
-            }
-        }
-        Write::Nothing
-    }
-
-    // The cursor one clock on.
-    fn passed(self, writes: &[u8; 192]) -> Cursor {
-        let next = self.next;
-        let wait = self.wait;
-        if wait > 0 {
-            return Cursor {
-                next,
-                wait: wait - 1,
-            };
-        }
-        if next < WRITES {
-            return Cursor::at(writes, next + 1);
-        }
-        self
+impl Walk {
+    // Takes one more clock: its numbers, the state after it, and that state's read-out go into the digest.
+    fn clock(&mut self, write: Write) {
+        let clock = Numbers::<4>::from(tia::colour_clock(&mut self.state, write));
+        let read_out = ReadOut::from(tia::read_out(self.state));
+        let clocked = self.digest.with(&clock.0).with_state(self.state);
+        self.digest = clocked.with(&read_out.verdict.0).with(&read_out.bytes);
     }
 }
 
-// The digest after one more clock: its number, index, byte and colour, its state, and that state's read-out.
-fn with_clock(digest: u32, answer: ClockAnswer) -> u32 {
-    let state = answer.state;
-    let out = tia::read_out(state);
-    let bytes = out.bytes;
-    let verdict = with_byte(with_byte(digest, answer.number), answer.index);
-    let clock = with_byte(with_byte(verdict, answer.byte), answer.colour);
-    let states = with_bytes(clock, &bytes_of(state));
-    with_bytes(with_byte(with_byte(states, out.number), out.index), &bytes)
-}
-
-// The digest of a walk's clocks from a state.
-fn digest_of(start: State, writes: &[u8; 192]) -> u32 {
-    let mut state = start;
-    let mut cursor = Cursor::at(writes, 0);
-    let mut digest = 0;
-    for _ in 0..1000u32 {
-        let answer = tia::colour_clock(state, cursor.due(writes));
-        digest = with_clock(digest, answer);
-        state = answer.state;
-        cursor = cursor.passed(writes);
+// The digest of a walk's clocks. Its writes follow the record, three bytes each: how many clocks come before, address, value.
+pub(crate) fn answer(case: &Case, input: &mut Input<impl Read>) -> Digest {
+    let mut timed = [[0; 3]; WRITES];
+    input.fill(timed.as_flattened_mut());
+    let writes = timed.iter().flat_map(|&[wait, address, value]| {
+        let write = Write::Register { address, value };
+        repeat_n(Write::Nothing, wait.into()).chain(once(write))
+    });
+    let mut walk = Walk {
+        state: case.state,
+        digest: Digest::default(),
+    };
+    for write in writes.chain(repeat(Write::Nothing)).take(CLOCKS) {
+        walk.clock(write);
     }
-    digest
-}
-
-// The row of a walk: its number and its digest. Its writes follow its record.
-pub(crate) fn row(
-    rt: &impl Print,
-    reader: &mut impl Read,
-    n: u32,
-    record: &[u8; 73],
-) -> io::Result<()> {
-    let mut writes = [0u8; 192];
-    streams::read_full(reader, &mut writes);
-    heading(rt, b"walk ", n)?;
-    hex(rt, digest_of(state_from(record), &writes))?;
-    text(rt, b"\n")
+    walk.digest
 }

@@ -6,7 +6,6 @@ use Prim.Native.Nat.{ℕ, zero, suc, ◌+◌, ◌<◌}
 use native.Mathlib.Omega.{arith}
 use lib.Dec.{eqb}
 use lib.ListN.{length, get_or}
-use Rattle.tia.specs.declared.answers.ClockAnswer.{ClockAnswer}
 use Rattle.tia.specs.declared.state.State.{State}
 use Rattle.tia.specs.declared.write.Write.TheVariants.{Register}
 use Rattle.tia.specs.State.{start_state, bad_state}
@@ -14,7 +13,7 @@ use Rattle.tia.specs.Write.{unknown}
 use Rattle.tia.specs.Clock.{clock_of}
 use Rattle.tia.specs.WriteList.{TimedWrite, records_of, write_at}
 use Rattle.tia.specs.Line.{line_of, line_rooms, picture}
-use Rattle.tia.specs.Answers.{given_clock, clock_answer, line_answer}
+use Rattle.tia.specs.Answers.{ClockAnswer, given_clock, clock_answer, line_answer}
 use Rattle.tia.specs.Run.{all_bytes}
 use Rattle.tia.proofs.AnswerLaws.{clock_given, no_fault}
 use Rattle.tia.proofs.LineLaws.{state_at, writes_of, line_byte, line_state}

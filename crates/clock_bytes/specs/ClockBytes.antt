@@ -1,7 +1,7 @@
 -- What is written for each clock of a line: a record of 38 bytes about the state after the clock.
 use Rattle.std.specs.Prelude.{ℕ, zero, suc, ◌+◌, ◌*◌, ◌/◌, ◌%◌, Bool, cond, List, [], ◌∷◌, ◌++◌, eqb, take, drop, get_or}
 use Rattle.counter.specs.Answers.{value_answer}
-use Rattle.tia.specs.declared.answers.ClockAnswer.{ClockAnswer}
+use Rattle.tia.specs.Answers.{ClockAnswer}
 use Rattle.tia.specs.declared.object.Object.{Object}
 use Rattle.tia.specs.declared.object.Player.{Player}
 use Rattle.tia.specs.declared.state.State.{State}

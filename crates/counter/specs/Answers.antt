@@ -1,14 +1,11 @@
 -- What each public call answers, in document 01's numbers: the refusal, then the value.
-use Rattle.std.specs.Prelude.{ℕ, Bool, cond, ◌||◌, eqb, ltb}
+use Rattle.std.specs.Prelude.{ℕ, Bool, cond, ◌||◌, eqb, ltb, Result, Ok, Err}
 use Rattle.laws.specs.Numbers.{for_no_such}
 use Rattle.counter.specs.Count.{value_of, count_of}
 use Rattle.counter.specs.Kind.{Kind, step_of}
-use Rattle.counter.specs.declared.count.Found.{Found}
-use Rattle.counter.specs.declared.count.Found.TheVariants as found
-use Rattle.counter.specs.declared.kind.HorizontalStep.{HorizontalStep}
-use Rattle.counter.specs.declared.kind.HorizontalStep.TheVariants as horizontal
-use Rattle.counter.specs.declared.kind.PositionStep.{PositionStep}
-use Rattle.counter.specs.declared.kind.PositionStep.TheVariants as position
+use Rattle.refusal.specs.declared.Refusal.{Refusal}
+use Rattle.refusal.specs.Refusal.{number_of}
+use Rattle.counter.specs.declared.counter.Counter.{Counter}
 
 -- An answer: the refusal number (0: not refused), the index of the record at fault (0: none is) and the value.
 pub record Answer : Type 0 where
@@ -45,14 +42,10 @@ unfoldable pub count_answer : ℕ → Answer
 count_answer v = cond (no_such_conversion v) (refused for_no_such) (given (count_of v))
 
 -- The paper's numbers for each case of the code's answers.
-abbrev pub found_answer : Found → Answer
-found_answer (found.Is n) = given n
-found_answer found.Refused = refused for_no_such
+abbrev pub found_answer : Result ℕ Refusal → Answer
+found_answer (Ok n) = given n
+found_answer (Err r) = refused (number_of r)
 
-abbrev pub horizontal_answer : HorizontalStep → Answer
-horizontal_answer (horizontal.To c) = given c.value
-horizontal_answer horizontal.Refused = refused for_no_such
-
-abbrev pub position_answer : PositionStep → Answer
-position_answer (position.To c) = given c.value
-position_answer position.Refused = refused for_no_such
+abbrev pub stepped_answer : {K : Type 0} → Result (Counter K) Refusal → Answer
+stepped_answer (Ok c) = given c.value
+stepped_answer (Err r) = refused (number_of r)

@@ -1,14 +1,8 @@
 // Counts and values of the six-bit counter, by the classroom card.
 ghost use Rattle.std.specs.Prelude.{◌≡◌, ◌<◌};
-ghost use Rattle.counter.specs.Count.{value_of};
 ghost use Rattle.counter.specs.Answers.{found_answer, value_answer, count_answer};
 
-// A value or a count, or refusal 10.
-#[derive(Clone, Copy)]
-pub enum Found {
-    Is(u8),
-    Refused,
-}
+use refusal::Refusal;
 
 // How many values the card prints.
 const COUNTS: u8 = 63;
@@ -24,35 +18,19 @@ const CARD: [u8; 63] = [
     0b010011, 0b101001, 0b010100, 0b101010, 0b010101, 0b001010, 0b000101, 0b000010, 0b000001,
 ];
 
-// The value that the card prints for a count.
-fn printed(count: u8) -> u8
-    requires { count < 63 }
-    ensures { result ≡ value_of count }
-{
-    CARD[count as usize]
-}
-
 // The value of a count; refusal 10 over 62.
-pub fn value_of_count(count: u8) -> Found
+#[tactic(auto, using(crate::proofs::AnswerLaws::entry_found), unfolding(crate::specs::Count::card))]
+pub fn value_of_count(count: u8) -> Result<u8, Refusal>
     ensures { found_answer result ≡ value_answer count }
 {
-    if count < COUNTS {
-        Found::Is(printed(count))
-    } else {
-        Found::Refused
-    }
+    CARD.get(usize::from(count)).copied().ok_or(Refusal::NoSuch)
 }
 
 // The count of a value; refusal 10 for 111111 and over 63.
-pub fn count_of_value(value: u8) -> Found
+pub fn count_of_value(value: u8) -> Result<u8, Refusal>
     ensures { found_answer result ≡ count_answer value }
 {
-    let mut count: u8 = 0;
-    while count < COUNTS {
-        if printed(count) == value {
-            return Found::Is(count);
-        }
-        count += 1;
-    }
-    Found::Refused
+    (0..COUNTS)
+        .find(|count| CARD[usize::from(*count)] == value)
+        .ok_or(Refusal::NoSuch)
 }

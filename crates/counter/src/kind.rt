@@ -1,92 +1,77 @@
 // The two kinds of counter: the horizontal one counts a scanline, a position one an object's column.
-ghost use Rattle.std.specs.Prelude.{◌≡◌};
-ghost use Rattle.counter.specs.Kind.{PowerUp, horizontal, position};
-ghost use Rattle.counter.specs.Answers.{step_answer, horizontal_answer, position_answer};
+ghost use Rattle.std.specs.Prelude.{◌≡◌, ℕ};
+ghost use Rattle.counter.specs.Kind.{Kind, horizontal, position, period_of, wrap_of, power_up_of, PowerUp, at_power_up};
 
-use crate::step::{ONES, wrap_step};
+use crate::counter::Counter;
 
-// The horizontal counter.
-#[derive(Clone, Copy)]
-pub struct Horizontal {
-    pub value: u8,
-}
+// A kind of counter: how many counts it uses, the value that it wraps from, and its value at power-up.
+pub trait CounterKind: Copy {
+    const PERIOD: u8;
 
-// The horizontal counter after a step, or refusal 10.
-#[derive(Clone, Copy)]
-pub enum HorizontalStep {
-    To(Horizontal),
-    Refused,
-}
+    const WRAP: u8;
 
-impl Horizontal {
-    pub const PERIOD: u8 = 57;
+    const POWER_UP: u8;
 
-    pub const WRAP: u8 = 0b010100;
+    ghost PERIOD: { ℕ };
 
-    pub const POWER_UP: u8 = 0b000000;
+    ghost WRAP: { ℕ };
 
-    // The counter at power-up.
-    pub fn new() -> Self
-        ensures { PowerUp horizontal Horizontal.PERIOD Horizontal.WRAP Horizontal.POWER_UP result.value }
+    ghost POWER_UP: { ℕ };
+
+    // The kind of the definitions.
+    ghost kind: { Kind };
+
+    // The constants are that kind's.
+    ghost constants: { PowerUp kind PERIOD WRAP POWER_UP POWER_UP };
+
+    // The kind's counter at power-up.
+    final fn new() -> Counter<Self>
+        ensures { PowerUp kind PERIOD WRAP POWER_UP result.value }
     {
-        Horizontal {
-            value: Horizontal::POWER_UP,
-        }
-    }
-
-    // The counter one step on; refusal 10 for a value over 63.
-    pub fn step(self) -> HorizontalStep
-        ensures { horizontal_answer result ≡ step_answer horizontal self.value }
-    {
-        let value = self.value;
-        if value > ONES {
-            return HorizontalStep::Refused;
-        }
-        HorizontalStep::To(Horizontal {
-            value: wrap_step(Self::WRAP, value),
-        })
+        Counter::at(Self::POWER_UP)
     }
 }
 
-// The position counter.
+// The horizontal kind.
 #[derive(Clone, Copy)]
-pub struct Position {
-    pub value: u8,
+pub struct Horizontal;
+
+impl CounterKind for Horizontal {
+    const PERIOD: u8 = 57;
+
+    const WRAP: u8 = 0b010100;
+
+    const POWER_UP: u8 = 0b000000;
+
+    ghost PERIOD = { period_of horizontal };
+
+    ghost WRAP = { wrap_of horizontal };
+
+    ghost POWER_UP = { power_up_of horizontal };
+
+    ghost kind = { horizontal };
+
+    ghost constants = { at_power_up horizontal };
 }
 
-// The position counter after a step, or refusal 10.
+// The position kind.
 #[derive(Clone, Copy)]
-pub enum PositionStep {
-    To(Position),
-    Refused,
-}
+pub struct Position;
 
-impl Position {
-    pub const PERIOD: u8 = 40;
+impl CounterKind for Position {
+    const PERIOD: u8 = 40;
 
-    pub const WRAP: u8 = 0b101101;
+    const WRAP: u8 = 0b101101;
 
-    pub const POWER_UP: u8 = 0b000000;
+    const POWER_UP: u8 = 0b000000;
 
-    // The counter at power-up.
-    pub fn new() -> Self
-        ensures { PowerUp position Position.PERIOD Position.WRAP Position.POWER_UP result.value }
-    {
-        Position {
-            value: Position::POWER_UP,
-        }
-    }
+    ghost PERIOD = { period_of position };
 
-    // The counter one step on; refusal 10 for a value over 63.
-    pub fn step(self) -> PositionStep
-        ensures { position_answer result ≡ step_answer position self.value }
-    {
-        let value = self.value;
-        if ONES < value {
-            return PositionStep::Refused;
-        }
-        PositionStep::To(Position {
-            value: wrap_step(Self::WRAP, value),
-        })
-    }
+    ghost WRAP = { wrap_of position };
+
+    ghost POWER_UP = { power_up_of position };
+
+    ghost kind = { position };
+
+    ghost constants = { at_power_up position };
 }

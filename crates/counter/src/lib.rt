@@ -2,8 +2,10 @@
 #![tactic(auto)]
 
 mod count;
+mod counter;
 mod kind;
 mod step;
 
-pub use count::{Found, count_of_value, value_of_count};
-pub use kind::{Horizontal, HorizontalStep, Position, PositionStep};
+pub use count::{count_of_value, value_of_count};
+pub use counter::Counter;
+pub use kind::{CounterKind, Horizontal, Position};

@@ -6,6 +6,7 @@ ghost use Rattle.counter.specs.Step.{plain_step, wrap_step};
 pub(crate) const ONES: u8 = 0b111111;
 
 // The step without a wrap.
+#[tactic(auto, using(crate::proofs::StepLaws::leftmost_one, crate::proofs::StepLaws::leftmost_zero))]
 fn plain_step(value: u8) -> u8
     requires { value ≤ 63 }
     ensures { result ≡ plain_step value }
@@ -18,6 +19,7 @@ fn plain_step(value: u8) -> u8
 }
 
 // The step with the wrap: 000000 from the wrap value and from 111111.
+#[tactic(auto, using(crate::proofs::StepLaws::from_wrap, crate::proofs::StepLaws::from_ones, crate::proofs::StepLaws::from_other))]
 pub(crate) fn wrap_step(wrap: u8, value: u8) -> u8
     requires { value ≤ 63 }
     ensures { result ≡ wrap_step wrap value }

@@ -2,89 +2,53 @@
 // and its count as a value.
 #![tactic(auto)]
 
-use counter::{Found, Horizontal, HorizontalStep, Position, PositionStep};
+use counter::{Counter, CounterKind, Horizontal, Position};
+use refusal::Refusal;
+use std::fmt;
 use std::io::{self, Print};
 
-// Writes bytes to standard output.
-fn text(rt: &impl Print, bytes: &[u8]) -> io::Result<()> {
-    rt.write_all(bytes)
-}
+// A value, printed as its six bits, leftmost first. (`chip_report` prints a digest in the same way, in its own format.)
+#[derive(Drop)]
+struct Bits(u8);
 
-// A number in decimal.
-fn decimal(rt: &impl Print, n: u8) -> io::Result<()> {
-    rt.print(n)
-}
-
-// The six bits of a value, leftmost first.
-fn bits(rt: &impl Print, value: u8) -> io::Result<()> {
-    text(
-        rt,
-        &[
-            b'0' + value / 32 % 2,
-            b'0' + value / 16 % 2,
-            b'0' + value / 8 % 2,
-            b'0' + value / 4 % 2,
-            b'0' + value / 2 % 2,
-            b'0' + value % 2,
-        ],
-    )
-}
-
-// A refused answer: refusal 10, record 0.
-fn refused(rt: &impl Print) -> io::Result<()> {
-    text(rt, b"refused(10,0)")
-}
-
-// The step of the horizontal kind.
-fn horizontal(rt: &impl Print, value: u8) -> io::Result<()> {
-    match (Horizontal { value }).step() {
-        HorizontalStep::To(next) => bits(rt, next.value),
-        HorizontalStep::Refused => refused(rt),
+impl fmt::Display for Bits {
+    fn fmt<W: fmt::Write>(&self, f: &mut fmt::Formatter<W>) -> fmt::Result {
+        write!(f, "{:06b}", self.0)
     }
 }
 
-// The step of the position kind.
-fn position(rt: &impl Print, value: u8) -> io::Result<()> {
-    match (Position { value }).step() {
-        PositionStep::To(next) => bits(rt, next.value),
-        PositionStep::Refused => refused(rt),
+// An answer, printed as what is found or as the refusal's number and record 0. (`chip_report` prints the refusal of a column so: two
+// formats of two programs.)
+#[derive(Drop)]
+struct Answer<T>(Result<T, Refusal>);
+
+impl<T: fmt::Display> fmt::Display for Answer<T> {
+    fn fmt<W: fmt::Write>(&self, f: &mut fmt::Formatter<W>) -> fmt::Result {
+        match &self.0 {
+            Ok(found) => write!(f, "{found}"),
+            Err(refusal) => write!(f, "refused({},0)", u8::from(*refusal)),
+        }
     }
 }
 
-// The value of a count.
-fn value_of(rt: &impl Print, count: u8) -> io::Result<()> {
-    match counter::value_of_count(count) {
-        Found::Is(value) => bits(rt, value),
-        Found::Refused => refused(rt),
-    }
-}
-
-// The count of a value.
-fn count_of(rt: &impl Print, value: u8) -> io::Result<()> {
-    match counter::count_of_value(value) {
-        Found::Is(count) => decimal(rt, count),
-        Found::Refused => refused(rt),
-    }
+// The value after a step of a kind.
+fn stepped<K: CounterKind>(value: u8) -> Answer<Bits> {
+    Answer(Counter::<K>::at(value).step().map(|next| Bits(next.value)))
 }
 
 // One row of the report: the input and its four answers.
 fn row(rt: &impl Print, input: u8) -> io::Result<()> {
-    decimal(rt, input)?;
-    text(rt, b" ")?;
-    horizontal(rt, input)?;
-    text(rt, b" ")?;
-    position(rt, input)?;
-    text(rt, b" ")?;
-    value_of(rt, input)?;
-    text(rt, b" ")?;
-    count_of(rt, input)?;
-    text(rt, b"\n")
+    let horizontal = stepped::<Horizontal>(input);
+    let position = stepped::<Position>(input);
+    let value = Answer(counter::value_of_count(input).map(Bits));
+    let count = Answer(counter::count_of_value(input));
+    println!(rt; "{input} {horizontal} {position} {value} {count}")
 }
 
 // The heading, then a row for each byte.
 fn report(rt: &impl Print) -> io::Result<()> {
-    text(rt, b"input horizontal position value count\n")?;
-    for input in 0..=255u8 {
+    println!(rt; "input horizontal position value count")?;
+    for input in 0..=255 {
         row(rt, input)?;
     }
     Ok(())

@@ -7,17 +7,14 @@ ghost use Rattle.tape.specs.Reading.{longest};
 ghost use Rattle.tia.specs.Line.{buffers};
 ghost use Rattle.replay.specs.Replay.{line_from};
 
-use replay::Verdict;
 use std::io::{self, Print};
 use tia::State;
 
 // Room for the longest tape and one byte more.
 const ROOM: usize = tape::LONGEST_TAPE + 1;
 
-// More steps than the longest tape has lines.
-const STEPS: u32 = (tape::LONGEST_TAPE + 1) as u32;
-
-// Writes object bytes and colours, which are those of the tape's line at a place, played from a state.
+// Writes object bytes and colours, which are those of the tape's line at a place, played from a state; the last three are what its callers
+// promise by. (`card_bytes` writes two parts as well; what each of the two requires of them is its own.)
 fn emit(
     rt: &impl Print,
     bytes: &[u8],
@@ -32,7 +29,8 @@ fn emit(
     rt.write_all(colours)
 }
 
-// Plays the lines of a tape from the start state and writes both of each, up to the tape's end or a line that is refused.
+// Plays the lines of a tape from the start state and writes both of each, up to the tape's end or a line that is refused. (A loop of
+// its own, as in `clock_bytes`: a function that is handed what to do with a line would require it of every line that may come.)
 fn show_lines(rt: &impl Print, tape: &[u8]) -> io::Result<()>
     requires { length tape.now ≤ longest }
 {
@@ -40,20 +38,19 @@ fn show_lines(rt: &impl Print, tape: &[u8]) -> io::Result<()>
     let mut colours = [0u8; 160];
     let mut state = State::start();
     let mut place = tape::FIRST_PLACE;
-    for step in 0..STEPS {
-        let played = replay::play_line(state, tape, place, &mut bytes, &mut colours);
-        let verdict = played.verdict;
-        let Verdict::Played(next) = verdict else {
+    loop {
+        let before = state;
+        let Ok(Some(next)) = replay::play_line(&mut state, tape, place, &mut bytes, &mut colours)
+        else {
             return Ok(());
         };
-        emit(rt, &bytes, &colours, state, tape, place)?;
-        state = played.state;
+        emit(rt, &bytes, &colours, before, tape, place)?;
         place = next;
     }
-    Ok(())
 }
 
-// Reads the tape and shows its lines; nothing is written for one that is too long.
+// Reads the tape and shows its lines; nothing is written for one that is too long. (Each program's limit is its own;
+// `read_full` says why it answers a count.)
 fn main(rt: HostRuntime) -> io::Result<()> {
     let mut room = [0u8; ROOM];
     let count = streams::read_full(&mut rt.reader(), &mut room);

@@ -1,53 +1,43 @@
 // Reads a tape from standard input and prints its listing.
 #![tactic(auto)]
 
-ghost use Rattle.std.specs.Prelude.{◌≡◌, ◌≤◌, length};
+ghost use Rattle.std.specs.Prelude.{◌≡◌};
 ghost use Rattle.listing_text.specs.Listing.{printed_bytes};
 
-use listing_text::{Next, Printed};
+use listing_text::Printed;
 use std::io::{self, Print};
 
 // One byte more than the longest tape.
 const ROOM: usize = tape::LONGEST_TAPE + 1;
 
-// More steps than the longest tape has lines.
-const STEPS: u32 = (tape::LONGEST_TAPE + 1) as u32;
-
 // Writes bytes, which are those that a step printed.
-fn emit(rt: &impl Print, bytes: &[u8], printed: Printed) -> io::Result<()>
-    requires { bytes.now ≡ printed_bytes printed }
+fn emit(rt: &impl Print, bytes: &[u8], printed: &Printed) -> io::Result<()>
+    requires { bytes.now ≡ printed_bytes printed.now }
 {
     rt.write_all(bytes)
 }
 
 // Writes what a step printed.
-fn show(rt: &impl Print, printed: Printed) -> io::Result<()>
-    requires { printed.length ≤ length printed.room }
-{
-    let room = printed.room;
-    let length = printed.length;
-    emit(rt, &room[0..length], printed)
+fn show(rt: &impl Print, printed: &Printed) -> io::Result<()> {
+    emit(rt, printed.text.as_bytes(), printed)
 }
 
 // Prints the listing of a tape: the first step, then each from where the one before left off.
 fn list(rt: &impl Print, tape: &[u8]) -> io::Result<()> {
-    let opened = listing_text::opening(tape);
-    show(rt, opened)?;
-    let mut next = opened.next;
-    let mut state = opened.state;
-    for line in 0..STEPS {
-        let Next::Line(place) = next else {
-            return Ok(());
-        };
-        let printed = listing_text::list_line(state, tape, place, line);
-        show(rt, printed)?;
-        next = printed.next;
-        state = printed.state;
+    let mut printed = listing_text::opening(tape);
+    show(rt, &printed)?;
+    // Counted here: the loop ends by what a step prints, and by no range.
+    let mut line = 0u32;
+    while let Some(place) = printed.next {
+        printed = listing_text::list_line(printed.state, tape, place, line);
+        show(rt, &printed)?;
+        line += 1;
     }
     Ok(())
 }
 
-// Reads the tape and lists it. What lies beyond the room is not read: the tape is too long then.
+// Reads the tape and lists it. What lies beyond the room is not read: the tape is too long then. (Each program's limit is its own;
+// `read_full` says why it answers a count.)
 fn main(rt: HostRuntime) -> io::Result<()> {
     let mut room = [0u8; ROOM];
     let count = streams::read_full(&mut rt.reader(), &mut room);

@@ -12,16 +12,15 @@ use Rattle.tape.specs.Reading.{longest}
 use Rattle.tia.specs.declared.state.State.{State}
 use Rattle.tia.specs.Line.{line_rooms}
 use Rattle.tia.specs.State.{start_state}
-use Rattle.replay.specs.declared.play.Verdict.{Verdict}
-use Rattle.replay.specs.declared.play.Verdict.TheVariants.{Played, Ended, Refused}
+use Rattle.replay.specs.Verdict.{Verdict, Played, Ended, Refused}
 use Rattle.replay.specs.Replay.{PlayedLine, Replay, state_after_lines, line_from, replay_from, replay_of}
 use Rattle.replay.proofs.ReplayLaws.{Stopped, unplayed_state, over_replay, enough, replay_enough}
-use Rattle.listing_text.specs.declared.listing.Next.TheVariants.{Line, Done}
+use Rattle.std.specs.Prelude.{Some, None}
 use Rattle.listing_text.specs.LineText.{heading, too_long, row_text}
 use Rattle.listing_text.specs.Listing.{rows_text, last_text, listing_of, opening_text, opening_next, line_text, line_next, steps_text}
 
 -- Nothing is printed when the listing is done.
-done : (steps line : ℕ) (s : State) (tape : List ℕ) → steps_text steps line s tape Done ≡ []
+done : (steps line : ℕ) (s : State) (tape : List ℕ) → steps_text steps line s tape None ≡ []
 unfolding steps_text
 done zero line s tape = refl
 done (suc steps) line s tape = refl
@@ -43,12 +42,12 @@ last_step line steps s tape at (Refused n i) stopped same =
 
 steps_are_rows :
     (tape : List ℕ) (steps : ℕ) (s : State) (at : ℕ) (line : ℕ) →
-    steps_text steps line s tape (Line at) ≡ replay_text line s (replay_from steps s tape at)
+    steps_text steps line s tape (Some at) ≡ replay_text line s (replay_from steps s tape at)
 unfolding steps_text rows_text
 steps_are_rows tape =
     over_replay
     tape
-    (λ steps s at r. (line : ℕ) → steps_text steps line s tape (Line at) ≡ replay_text line s r)
+    (λ steps s at r. (line : ℕ) → steps_text steps line s tape (Some at) ≡ replay_text line s r)
     (λ s at line. refl)
     (λ steps s at next later e holds line.
     let row = row_text line (line_from s tape at).filled.objects in
@@ -77,7 +76,7 @@ steps_are_listing tape = by_length (ltb longest (length tape)) refl
 
     by_length :
         (long : Bool) → ltb longest (length tape) ≡ long →
-        cond long too_long heading ++ steps_text enough 0 start_state tape (cond long Done (Line 1))
+        cond long too_long heading ++ steps_text enough 0 start_state tape (cond long None (Some 1))
         ≡ cond long too_long (heading ++ (rows_text 0 lines ++ last))
     by_length true e = rw (done enough 0 start_state tape) (append-nil too_long)
     by_length false e =

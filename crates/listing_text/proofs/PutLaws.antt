@@ -1,82 +1,48 @@
 -- Text put after text, and the digits of numbers.
 use mathlib.Core.Path.{◌≡◌, ◌∙◌, refl, sym, ap}
-use mathlib.Core.List.{List, [], ◌∷◌, ◌++◌}
-use Prim.Native.Nat.{ℕ, zero, suc, ◌+◌, ◌-◌, ◌/◌, ◌%◌, ◌≤◌, ◌<◌}
-use native.Mathlib.Nat.{add-zero, add-suc, suc-add}
-use native.Mathlib.Numerals.{add-one, sub-one}
+use mathlib.Core.List.{List, [], ◌∷◌, ◌++◌, append_assoc, append-nil}
+use Prim.Native.Nat.{ℕ, ◌+◌, ◌^◌, ◌<◌}
+use native.Mathlib.Numerals.{add-one}
 use native.Mathlib.Omega.{arith}
 use borrow.Author.Tests.{lt-ltb, le-ltb}
-use lib.ListN.{length, get_or, take, drop, replicate, length-append}
-use lib.Seq.{sets, sets-eq, take-suc, take_all, take-append_seam, length-take-le}
+use Rattle.std.specs.Fmt.{decimal}
+use Rattle.std.proofs.lemmas.Fmt.{AppendsLastDigit, decimal_from_appends, length-decimal-le}
 use Rattle.listing_text.specs.Room.{Put}
-use Rattle.listing_text.specs.Text.{ascii, digits_of, spaced}
-
--- Two runs of stores are one.
-sets_append : (xs ys room : List ℕ) (at : ℕ) → sets (sets room at xs) (at + length xs) ys ≡ sets room at (xs ++ ys)
-sets_append [] ys room at = rw add-zero
-sets_append (x ∷ xs) ys room at =
-    ap (λ (n : ℕ). sets (sets room at (x ∷ xs)) n ys) (add-suc at (length xs) ∙ sym (suc-add at (length xs)))
-    ∙ sets_append xs ys _ (suc at)
-
--- Text stored at the start of a room that it fits is the room's first bytes.
-pub take_sets : (text : List ℕ) → length text ≤ 64 → take (length text) (sets (replicate 64 0) 0 text) ≡ text
-take_sets text fits =
-    ap (take (length text)) (sets-eq text (replicate 64 0) 0 (omega arith))
-    ∙ take-append_seam text (drop (0 + length text) (replicate 64 0))
+use Rattle.listing_text.specs.Text.{ascii, digits_of, byte_text, number_text, spaced}
 
 -- No text, and text after text.
-pub put_none : (room : List ℕ) (at : ℕ) → Put [] at room at room
-put_none room at = record { next_is = omega arith; after_is = refl }
+pub put_none : (text : List ℕ) → Put [] 0 text text
+put_none text = record { after_is = sym (append-nil text); within = omega arith }
 
 pub put_then :
-    (xs ys : List ℕ) {at mid next : ℕ} {room between after : List ℕ} → Put xs at room mid between → Put ys mid between next after →
-    Put (xs ++ ys) at room next after
-put_then xs ys {at} {mid} {next} {room} {between} {after} p q =
-    record {
-      next_is = omega (arith, length-append xs ys);
-      after_is = q.after_is ∙ rw (p.next_is, p.after_is) (sets_append xs ys room at);
-    }
+    (xs ys : List ℕ) {a b : ℕ} {before between after : List ℕ} → Put xs a before between → Put ys b between after →
+    Put (xs ++ ys) (a + b) before after
+put_then xs ys {a} {b} {before} {between} {after} p q =
+    record { after_is = q.after_is ∙ rw p.after_is (append_assoc before xs ys); within = omega arith }
 
--- One more byte of some bytes.
-pub put_more :
-    (bytes : List ℕ) (i : ℕ) {at mid next : ℕ} {room between after : List ℕ} → i < length bytes →
-    Put (take i bytes) at room mid between → Put (get_or bytes i 0 ∷ []) mid between next after →
-    Put (take (i + 1) bytes) at room next after
-put_more bytes i within p q = rw (add-one i, take-suc bytes i 0 within) (put_then (take i bytes) (get_or bytes i 0 ∷ []) p q)
-
--- All of them, and the room for one more.
-pub put_all :
-    (bytes : List ℕ) (i : ℕ) {at next : ℕ} {room after : List ℕ} → Put (take i bytes) at room next after → length bytes ≤ i →
-    Put bytes at room next after
-put_all bytes i p all = rw (take_all i bytes all) at p
-
-pub put_below :
-    (bytes : List ℕ) (i : ℕ) {at next : ℕ} {room after : List ℕ} → Put (take i bytes) at room next after → i < length bytes →
-    at + length bytes ≤ 64 → next < 64
-put_below bytes i p more fits = omega (arith, length-take-le i bytes (omega arith))
-
--- The digits by the tests of the code.
-pub no_digits : (most n : ℕ) → most ≡ 0 → digits_of most n ≡ []
+-- The decimal digits of std are those of the listing.
+digits_append : AppendsLastDigit digits_of
 unfolding digits_of
-no_digits most n e = rw e
+digits_append = record {
+  one = λ k n small. rw (lt-ltb n 10 small) (ap (λ (digit : ℕ). (48 + digit) ∷ []) (omega arith));
+  more = λ k n large. rw (le-ltb n 10 large) refl;
+}
 
-pub one_digit : (most n : ℕ) → (most ≡ 0 → ⊥) → n < 10 → digits_of most n ≡ (48 + n % 10) ∷ []
-unfolding digits_of
-one_digit zero n some small = absurd (some refl)
-one_digit (suc most) n some small = rw (lt-ltb n 10 small)
+pub byte_digits : (n : ℕ) → n < 2 ^ 8 → decimal n ≡ byte_text n
+byte_digits n small = sym (decimal_from_appends digits_of digits_append 3 n (omega arith) (length-decimal-le 3 n (omega arith) (omega arith) (omega arith)))
 
-pub more_digits : (most n : ℕ) → (most ≡ 0 → ⊥) → 10 ≤ n → digits_of most n ≡ digits_of (most - 1) (n / 10) ++ ((48 + n % 10) ∷ [])
-unfolding digits_of
-more_digits zero n some large = absurd (some refl)
-more_digits (suc most) n some large = rw (le-ltb n 10 large, sub-one (suc most))
+pub number_digits : (n : ℕ) → n < 2 ^ 32 → decimal n ≡ number_text n
+number_digits n small =
+    sym (decimal_from_appends digits_of digits_append 10 n (omega arith) (length-decimal-le 10 n (omega arith) (omega arith) (omega arith)))
 
--- One more part with a space before it.
-pub spaced_none : (part : ℕ → List ℕ) (room : List ℕ) (at : ℕ) → Put (spaced part 0) at room at room
+-- No part, and one more with a space before it.
+pub spaced_none : (part : ℕ → List ℕ) (text : List ℕ) → Put (spaced part 0) 0 text text
 unfolding spaced
-spaced_none part room at = put_none room at
+spaced_none part text = put_none text
 
 pub spaced_more :
-    (part : ℕ → List ℕ) (n : ℕ) {at next mid last : ℕ} {room one two after : List ℕ} → Put (spaced part n) at room next one →
-    Put (ascii " ") next one mid two → Put (part n) mid two last after → Put (spaced part (n + 1)) at room last after
+    (part : ℕ → List ℕ) (n : ℕ) {a b c most : ℕ} {before one two after : List ℕ} → Put (spaced part n) a before one →
+    Put (ascii " ") b one two → Put (part n) c two after → a + (b + c) ≡ most → Put (spaced part (n + 1)) most before after
 unfolding spaced
-spaced_more part n p space q = rw (add-one n) (put_then (spaced part n) _ p (put_then (ascii " ") (part n) space q))
+spaced_more part n p space q all =
+    rw (add-one n, sym all) (put_then (spaced part n) _ p (put_then (ascii " ") (part n) space q))

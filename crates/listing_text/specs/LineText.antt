@@ -1,7 +1,6 @@
 -- The text of each kind of printed line.
-use Rattle.std.specs.Prelude.{ℕ, List, [], ◌++◌, get_or}
-use Rattle.tia.specs.declared.first_lit.FirstLit.{FirstLit}
-use Rattle.tia.specs.declared.first_lit.FirstLit.TheVariants.{Column, Unlit, Refused}
+use Rattle.std.specs.Prelude.{ℕ, List, [], ◌++◌, get_or, Option, Some, None, Result, Ok, Err}
+use Rattle.refusal.specs.declared.Refusal.{Refusal}
 use Rattle.tia.specs.declared.state.State.{State}
 use Rattle.tia.specs.FirstLit.{first_lit_of}
 use Rattle.tia.specs.Answers.{read_out_answer}
@@ -16,10 +15,10 @@ abbrev pub too_long : List ℕ
 too_long = ascii "tape too long\n"
 
 -- A first lit column, `-` for none. (No column is refused: a line has 160 bytes, and the objects are 0 to 5.)
-abbrev pub column_text : FirstLit → List ℕ
-column_text (Column x) = byte_text x
-column_text Unlit = ascii "-"
-column_text (Refused n) = []
+abbrev pub column_text : Result (Option ℕ) Refusal → List ℕ
+column_text (Ok (Some x)) = byte_text x
+column_text (Ok None) = ascii "-"
+column_text (Err refusal) = []
 
 -- The first lit columns of P0, P1, M0, M1, BL and PF in a line's bytes.
 abbrev pub columns_text : List ℕ → List ℕ

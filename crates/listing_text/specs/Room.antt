@@ -1,9 +1,11 @@
--- Text put into a lent room.
-use Rattle.std.specs.Prelude.{ℕ, ◌+◌, ◌≡◌, List, length}
-use Rattle.std.proofs.lemmas.List.Edits.{sets}
+-- Text put after the text of a printed line, which has room for 64 bytes.
+use Rattle.std.specs.Prelude.{ℕ, ◌+◌, ◌≡◌, ◌≤◌, List, ◌++◌, length}
 
--- Text put at a place of a room: the place after it, and the room's bytes then. `sets` stores the text's bytes one after another
--- from the place on, and leaves all others as they were.
-pub record Put (text : List ℕ) (at : ℕ) (room : List ℕ) (next : ℕ) (after : List ℕ) : Type 0 where
-  pub next_is : next ≡ at + length text
-  pub after_is : after ≡ sets room at text
+-- So many more bytes fit.
+abbrev pub HasRoom : (more : ℕ) (text : List ℕ) → Type 0
+HasRoom more text = length text + more ≤ 64
+
+-- The text after is the text before and the part that is put, which has at most so many bytes.
+pub record Put (part : List ℕ) (most : ℕ) (before after : List ℕ) : Type 0 where
+  pub after_is : after ≡ before ++ part
+  pub within : length after ≤ length before + most

@@ -5,4 +5,5 @@ mod line_text;
 mod listing;
 mod put;
 
-pub use listing::{Next, Printed, list_line, opening};
+pub use listing::{Printed, list_line, opening};
+pub use put::Text;

@@ -1,60 +1,87 @@
-// Text put into a line's room of 64 bytes: each function writes at a place and answers the place after it.
-ghost use Rattle.std.specs.Prelude.{◌≡◌, [], ◌∷◌, ◌+◌, ◌≤◌, ◌<◌, length};
-ghost use Rattle.listing_text.specs.Room.{Put};
-ghost use Rattle.listing_text.specs.Text.{digits_of, hex_digit, hex_byte};
+// The text of a printed line as it is put together.
+ghost use Rattle.std.specs.Prelude.{◌≡◌, [], ◌+◌, ◌≤◌, ◌<◌, length};
+ghost use Rattle.listing_text.specs.Room.{HasRoom, Put};
+ghost use Rattle.listing_text.specs.Text.{hex_digit, hex_byte};
 
-// One byte.
-pub(crate) fn put_byte(out: &mut [u8; 64], at: usize, byte: u8) -> usize
-    requires { at < 64 }
-    ensures { Put (byte ∷ []) at out.old result out.new }
-{
-    out[at] = byte;
-    at + 1
+use arrayvec::ArrayString;
+use itoa::{Buffer, Integer};
+use std::marker::Model;
+
+// Text of at most 64 bytes. A contract sees its bytes.
+#[derive(Clone, Drop)]
+pub struct Text {
+    string: ArrayString<64>,
 }
 
-// Some bytes.
-pub(crate) fn put_bytes(out: &mut [u8; 64], at: usize, bytes: &[u8]) -> usize
-    requires { at + length bytes.now ≤ 64 }
-    ensures { Put bytes.now at out.old result out.new }
-{
-    let mut next = at;
-    let mut i = 0;
-    while i < bytes.len() {
-        next = put_byte(out, next, bytes[i]);
-        i += 1;
-    }
-    next
+impl Model for Text {
+    ghost use Rattle.std.specs.Prelude.{ℕ, List};
+
+    ghost Value = { List ℕ };
+
+    ghost view = { λ t. t.string.bytes };
 }
 
-// A number in decimal, in at most so many digits.
-pub(crate) fn put_decimal(out: &mut [u8; 64], at: usize, most: usize, n: u32) -> usize
-    requires { at + most ≤ 64 }
-    ensures { Put (digits_of most n) at out.old result out.new × (result ≤ at + most) }
-{
-    if most == 0 {
-        return at;
+impl Text {
+    // No text.
+    pub(crate) fn new() -> Self
+        ensures { result ≡ [] }
+    {
+        Text {
+            string: ArrayString::new(),
+        }
     }
-    let digit = b'0' + (n % 10) as u8;
-    if n < 10 {
-        return put_byte(out, at, digit);
+
+    // Some text alone.
+    pub(crate) fn of(part: &str) -> Self
+        requires { length part.now ≤ 64 }
+        ensures text { result ≡ part.now }
+        ensures fits { length result ≤ 64 }
+    {
+        let mut text = Self::new();
+        text.put(part);
+        text
     }
-    let next = put_decimal(out, at, most - 1, n / 10);
-    put_byte(out, next, digit)
+
+    // Its bytes.
+    pub fn as_bytes(&self) -> &[u8]
+        ensures bytes { result.now ≡ self.now }
+        ensures fits { length result.now ≤ 64 }
+    {
+        self.string.as_str().as_bytes()
+    }
+
+    // Puts some text.
+    pub(crate) fn put(&mut self, part: &str)
+        requires { HasRoom (length part.now) self.old }
+        ensures { Put part.now (length part.now) self.old self.new }
+    {
+        self.string.push_str(part);
+    }
+
+    // Puts a number in decimal.
+    pub(crate) fn put_number<I: Integer>(&mut self, number: I)
+        requires { HasRoom I.MAX_STR_LEN self.old }
+        ensures { Put (I.text number) I.MAX_STR_LEN self.old self.new }
+    {
+        let mut buffer = Buffer::new();
+        self.put(buffer.format(number));
+    }
+
+    // Puts a byte in two hexadecimal digits.
+    pub(crate) fn put_hex(&mut self, byte: u8)
+        requires { HasRoom 2 self.old }
+        ensures { Put (hex_byte byte) 2 self.old self.new }
+    {
+        self.string.push(char::from(hex_digit(byte / 16)));
+        self.string.push(char::from(hex_digit(byte % 16)));
+    }
 }
 
-// An upper-case hexadecimal digit.
+// An upper-case hexadecimal digit. (By hand: no contract of `write!` with `{byte:02X}` says that it fits, so it may fail, which a step
+// of the listing cannot.)
 fn hex_digit(n: u8) -> u8
     requires { n < 16 }
     ensures { result ≡ hex_digit n }
 {
     if n < 10 { b'0' + n } else { b'A' + (n - 10) }
-}
-
-// A byte in two hexadecimal digits.
-pub(crate) fn put_hex(out: &mut [u8; 64], at: usize, byte: u8) -> usize
-    requires { at + 2 ≤ 64 }
-    ensures { Put (hex_byte byte) at out.old result out.new }
-{
-    let next = put_byte(out, at, hex_digit(byte / 16));
-    put_byte(out, next, hex_digit(byte % 16))
 }

@@ -55,8 +55,9 @@ const MIRRORED_BYTES: [u8; 256] = [
 ];
 
 // The mirrored byte, looked up in the table.
+#[tactic(auto, using(crate::proofs::MirrorLaws::entry_is_mirrored), unfolding(crate::specs::Mirror::mirrored, crate::specs::Mirror::mirrored_bytes))]
 pub fn mirrored(byte: u8) -> u8
     ensures { result ≡ Mirror.mirrored byte }
 {
-    MIRRORED_BYTES[byte as usize]
+    MIRRORED_BYTES[usize::from(byte)]
 }

@@ -3,11 +3,10 @@ use mathlib.Core.Path.{◌≡◌}
 use mathlib.Core.List.{List}
 use Prim.Native.Nat.{ℕ, suc, ◌+◌, ◌-◌, ◌≤◌, ◌<◌}
 use native.Mathlib.Omega.{arith}
-use Rattle.tia.specs.declared.line_call.LineAnswer.{LineAnswer}
 use Rattle.tia.specs.declared.state.State.{State}
 use Rattle.tia.specs.State.{start_state}
 use Rattle.tia.specs.Line.{Buffers}
-use Rattle.tia.specs.Answers.{LinePromise}
+use Rattle.tia.specs.Answers.{LineAnswer, LinePromise}
 use Rattle.repeat_line.specs.Repeated.{repeated}
 
 -- Before a call, with so many made.

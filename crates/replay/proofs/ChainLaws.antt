@@ -41,7 +41,7 @@ stretch_bytes tape at all = by_reading (read_at tape at)
     by_reading : (found : Place) → all_bytes (stretch_of tape found) ≡ true
     by_reading (place.Line start end) = bytes_take (end - start) (drop start tape) (bytes_drop start tape all)
     by_reading place.Ended = refl
-    by_reading (place.Refused n) = refl
+    by_reading (place.Refused r) = refl
 
 -- The stretch of a line that is read is a slice: 684 bytes at most.
 stretch_slice :

@@ -3,13 +3,13 @@ use mathlib.Core.Path.{◌≡◌, ◌∙◌, refl, sym, ap}
 use mathlib.Core.List.{List, [], ◌∷◌, ◌++◌, append_assoc}
 use Prim.Native.Nat.{ℕ, suc, ◌+◌, ◌-◌, ◌≤◌, ◌<◌}
 use native.Mathlib.Omega.{arith}
-use native.Mathlib.Nat.{suc-add}
+use Rattle.std.proofs.lemmas.List.{length_push}
 use lib.ListN.{length}
 use Rattle.tape.specs.Reading.{longest}
 use Rattle.tia.specs.declared.state.State.{State}
 use Rattle.tia.specs.State.{start_state}
 use Rattle.tia.specs.Line.{line_rooms}
-use Rattle.replay.specs.declared.play.Verdict.TheVariants.{Played}
+use Rattle.replay.specs.Verdict.{Played}
 use Rattle.replay.specs.Play.{play_answer}
 use Rattle.replay.specs.Replay.{PlayedLine, state_after_lines, line_from, replay_from, replay_of}
 use Rattle.replay.proofs.ReplayLaws.{enough, replay_enough}
@@ -24,11 +24,7 @@ pub record Followed (tape : List ℕ) (passed : List PlayedLine) (count : ℕ) (
 pub followed_none : (tape : List ℕ) → length tape ≤ longest → Followed tape [] 0 start_state 1
 followed_none tape short = record { counted = refl; reached = refl; rest = rw (replay_enough tape short) refl }
 
--- One line more: it is counted, and the state is the one after it.
-count_of_more : (ls : List PlayedLine) (l : PlayedLine) → length (ls ++ (l ∷ [])) ≡ length ls + 1
-count_of_more [] l = refl
-count_of_more (k ∷ ks) l = ap suc (count_of_more ks l) ∙ sym (suc-add (length ks) 1)
-
+-- One line more: the state is the one after it.
 state_of_more : (s : State) (ls : List PlayedLine) (l : PlayedLine) → state_after_lines s (ls ++ (l ∷ [])) ≡ l.state
 state_of_more s [] l = refl
 state_of_more s (k ∷ ks) l = state_of_more k.state ks l
@@ -58,7 +54,7 @@ module _
       let line = line_from s tape place in
       let later = (replay_from (enough - (count + 1)) line.state tape next).lines in
       record {
-        counted = count_of_more passed line ∙ ap (λ (n : ℕ). n + 1) now.counted;
+        counted = length_push passed line ∙ ap (λ (n : ℕ). n + 1) now.counted;
         reached = state_of_more start_state passed line;
         rest = followed_here ∙ sym (append_assoc passed (line ∷ []) later);
       }

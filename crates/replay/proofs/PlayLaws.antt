@@ -1,74 +1,53 @@
 -- Playing a line by cases: what it answers, by what stands at the place.
-use mathlib.Core.Path.{◌≡◌, refl}
+use mathlib.Core.Path.{◌≡◌, refl, ap}
 use mathlib.Core.List.{List}
-use mathlib.Core.Bool.{Bool, true, false, cond}
+use mathlib.Core.Bool.{false}
 use Prim.Native.Nat.{ℕ}
 use native.Mathlib.Omega.{arith}
-use borrow.Author.Tests.{eq-eqb, eqb-true}
-use lib.Dec.{eqb}
+use borrow.Author.Tests.{eq-eqb}
+use Rattle.std.specs.Prelude.{Option, Some, None, Result, Ok, Err}
+use Rattle.std.proofs.lemmas.Bool.Decides.{nat_tests}
 use lib.ListN.{length}
 use Rattle.laws.specs.Numbers.{bad_length, for_list_length}
-use Rattle.laws.proofs.OneToOne.{one_to_one}
 use Rattle.laws.proofs.Decides.{length_decided}
+use Rattle.refusal.specs.declared.Fault.{Fault}
+use Rattle.refusal.proofs.NumberLaws.{same_refusal}
 use Rattle.tape.specs.declared.reading.Place.{Place}
 use Rattle.tape.specs.declared.reading.Place.TheVariants.{Line, Ended, Refused}
 use Rattle.tape.specs.Reading.{read_at, stretch_at}
 use Rattle.tape.proofs.ReadingLaws.{line_there, stretch_length}
-use Rattle.tia.specs.declared.line_call.LineAnswer.{LineAnswer}
 use Rattle.tia.specs.declared.state.State.{State}
 use Rattle.tia.specs.Line.{line_of, Buffers, Rooms, rooms_of, pictures}
-use Rattle.tia.specs.Answers.{line_fault, line_answer, line_buffers, LinePromise}
+use Rattle.tia.specs.Answers.{line_fault, line_answer, line_buffers}
 use Rattle.tia.proofs.RefusalLaws.{line_refused_exactly}
-use Rattle.replay.specs.declared.play.PlayAnswer.{PlayAnswer}
-use Rattle.replay.specs.declared.play.Verdict.{Verdict}
-use Rattle.replay.specs.declared.play.Verdict.TheVariants as verdict
-use Rattle.replay.specs.Play.{line_verdict, play_answer, play_buffers, PlayPromise}
-use Rattle.replay.specs.Play.{VerdictNumbers, verdict_numbers, PlayNumbers, play_numbers}
+use Rattle.replay.specs.Verdict.{Verdict, PlayAnswer, verdict_of}
+use Rattle.replay.specs.Verdict as verdict
+use Rattle.replay.specs.Play.{play_answer, play_buffers, PlayPromise}
+use Rattle.replay.specs.Play.{verdict_numbers, PlayNumbers, play_numbers}
 
 -- Equal numbers mean equal answers.
-verdict_back : VerdictNumbers → Verdict
-verdict_back n =
-    cond (eqb n.case 0) (verdict.Played n.place) (cond (eqb n.case 1) verdict.Ended (verdict.Refused n.number n.index))
-
-verdict_inverse : (v : Verdict) → verdict_back (verdict_numbers v) ≡ v
-unfolding verdict_back
-verdict_inverse (verdict.Played next) = refl
-verdict_inverse verdict.Ended = refl
-verdict_inverse (verdict.Refused n i) = refl
-
-play_back : PlayNumbers → PlayAnswer
-play_back n = record { verdict = verdict_back n.verdict; state = n.state }
-
-play_inverse : (a : PlayAnswer) → play_back (play_numbers a) ≡ a
-unfolding play_back
-play_inverse a = λ i. record { verdict = verdict_inverse a.verdict i; state = a.state }
+same_numbers : {v w : Verdict} → verdict_numbers v ≡ verdict_numbers w → v ≡ w
+same_numbers {v = verdict.Played next} {w = w} e = grind arith
+same_numbers {v = verdict.Ended} {w = w} e = grind arith
+same_numbers {v = verdict.Refused n i} {w = w} e = grind arith
 
 pub same_play : {a b : PlayAnswer} → play_numbers a ≡ play_numbers b → a ≡ b
-same_play e = one_to_one play_numbers play_back play_inverse e
+same_play {a} {b} e =
+    let said = same_numbers (ap (λ (n : PlayNumbers). n.verdict) e) in
+    let state = ap (λ (n : PlayNumbers). n.state) e in
+    λ i. record { verdict = said i; state = state i }
+
+-- Equal verdicts mean equal results of the call.
+pub same_result : {a b : Result (Option ℕ) Fault} → verdict_of a ≡ verdict_of b → a ≡ b
+same_result {a = Ok (Some next)} {b = b} e = grind (arith, same_refusal)
+same_result {a = Ok None} {b = b} e = grind (arith, same_refusal)
+same_result {a = Err fault} {b = b} e = grind (arith, same_refusal)
 
 -- What playing a line answers, by its promise.
 pub play_answered :
     (s : State) (tape : List ℕ) (place : ℕ) (lent : Buffers) (answer : PlayAnswer) (after : Buffers) →
     PlayPromise s tape place lent answer after → answer ≡ play_answer s tape place (rooms_of lent)
 play_answered s tape place lent answer after promise = same_play promise.0
-
--- The promise by cases of the reading.
-module _ (s : State) (tape : List ℕ) (place : ℕ) (lent : Buffers) (found : Place) (read : found ≡ read_at tape place) where
-  pub play_line :
-      (start end : ℕ) → found ≡ Line start end → (ws : List ℕ) → ws ≡ stretch_at tape place → (answer : LineAnswer) (after : Buffers) →
-      LinePromise s ws lent answer after → (said : Verdict) → said ≡ line_verdict answer.number answer.index end →
-      PlayPromise s tape place lent (record { verdict = said; state = answer.state }) after
-  unfolding play_answer play_buffers
-  play_line start end line ws stretch answer after promise said e =
-      (rw (← read, line, ← stretch, ← promise.0, e), rw (← read, line, ← stretch) promise.1)
-
-  pub play_ended : found ≡ Ended → PlayPromise s tape place lent (record { verdict = verdict.Ended; state = s }) lent
-  unfolding play_answer play_buffers
-  play_ended e = (rw (← read, e), rw (← read, e))
-
-  pub play_refused : (n : ℕ) → found ≡ Refused n → PlayPromise s tape place lent (record { verdict = verdict.Refused n 0; state = s }) lent
-  unfolding play_answer play_buffers
-  play_refused n e = (rw (← read, e), rw (← read, e))
 
 -- A line that was played stands at the place, and the line call accepted it.
 pub record PlayedHere (s : State) (tape : List ℕ) (place : ℕ) (room : Rooms) (next : ℕ) : Type 0 where
@@ -83,28 +62,17 @@ pub played_here :
 unfolding play_answer
 played_here s tape place room next e = by_reading (read_at tape place) refl
   where
-    not_ended : verdict.Ended ≡ verdict.Played next → ⊥
-    not_ended said = let z : ◌≡◌ {A = ℕ} 0 1 = cc in omega arith
-
-    not_refused : (n i : ℕ) → verdict.Refused n i ≡ verdict.Played next → ⊥
-    not_refused n i said = let z : ◌≡◌ {A = ℕ} 0 1 = cc in omega arith
-
-    answer : LineAnswer
-    answer = line_answer s (stretch_at tape place) room
-
-    by_number :
-        (b : Bool) (start end : ℕ) → eqb answer.number 0 ≡ b → read_at tape place ≡ Line start end →
-        cond b (verdict.Played end) (verdict.Refused answer.number answer.index) ≡ verdict.Played next →
-        PlayedHere s tape place room next
-    by_number true start end accepted line said =
-        let same : end ≡ next = cc in
-        record { start = start; line = rw same at line; number = eqb-true answer.number 0 accepted; state = rw line }
-    by_number false start end refused line said = absurd (not_refused _ _ said)
-
     by_reading : (found : Place) → read_at tape place ≡ found → PlayedHere s tape place room next
-    by_reading (Line start end) line = by_number (eqb answer.number 0) start end refl line (rw line at e)
-    by_reading Ended ended = absurd (not_ended (rw ended at e))
-    by_reading (Refused n) refused = absurd (not_refused n 0 (rw refused at e))
+    by_reading (Line start end) line =
+        let said = rw line at e in
+        record {
+          start = start;
+          line = grind (arith, nat_tests);
+          number = grind (arith, nat_tests);
+          state = grind (arith, nat_tests);
+        }
+    by_reading Ended ended = let said = rw ended at e in grind arith
+    by_reading (Refused r) refused = let said = rw refused at e in grind arith
 
 -- Then the buffers hold the line's pictures.
 pub played_pictures :

@@ -1,26 +1,22 @@
 -- A replay line by line, and its end: each line takes two bytes or more, so a replay that may play more lines than the tape has
 -- bytes stops at the tape's end or at a refusal, and then a higher limit changes nothing.
 use mathlib.Core.Path.{◌≡◌, refl}
-use mathlib.Core.Bool.{Bool, true, false, cond}
 use mathlib.Core.List.{List, [], ◌∷◌}
 use Prim.Native.Nat.{ℕ, zero, suc, ◌+◌, ◌-◌, ◌*◌, ◌≤◌, ◌<◌}
 use native.Mathlib.Nat.{suc-add}
 use native.Mathlib.Omega.{arith}
-use borrow.Author.Tests.{eqb-false}
-use lib.Dec.{eqb}
+use borrow.Author.Tests.{eq-eqb}
 use lib.ListN.{length}
 use Rattle.tape.specs.declared.reading.Place.{Place}
 use Rattle.tape.specs.declared.reading.Place.TheVariants as place
 use Rattle.tape.specs.Reading.{longest, read_at, stretch_at}
 use Rattle.tape.proofs.ReadingLaws.{line_there}
-use Rattle.tia.specs.declared.line_call.LineAnswer.{LineAnswer}
 use Rattle.tia.specs.declared.state.State.{State}
 use Rattle.tia.specs.State.{start_state}
 use Rattle.tia.specs.Line.{Rooms, line_rooms}
 use Rattle.tia.specs.Answers.{line_answer}
 use Rattle.tia.proofs.RefusalLaws.{refused_line_state}
-use Rattle.replay.specs.declared.play.Verdict.{Verdict}
-use Rattle.replay.specs.declared.play.Verdict.TheVariants.{Played, Ended, Refused}
+use Rattle.replay.specs.Verdict.{Verdict, Played, Ended, Refused}
 use Rattle.replay.specs.Play.{played_at, play_answer}
 use Rattle.replay.specs.Replay.{PlayedLine, Replay, line_from, and_then, replay_from, replay_of}
 use Rattle.replay.proofs.PlayLaws.{played_here}
@@ -37,21 +33,14 @@ pub unplayed_state :
 unfolding play_answer
 unplayed_state s tape at room = by_reading (read_at tape at)
   where
-    answer : LineAnswer
-    answer = line_answer s (stretch_at tape at) room
-
-    by_number :
-        (b : Bool) (end : ℕ) → eqb answer.number 0 ≡ b →
-        Stopped (cond b (Played end) (Refused answer.number answer.index)) → answer.state ≡ s
-    by_number true end e stopped = absurd stopped
-    by_number false end e stopped = refused_line_state s (stretch_at tape at) room (eqb-false answer.number 0 e)
-
     by_reading :
         (found : Place) → Stopped (played_at s (stretch_at tape at) room found).verdict →
         (played_at s (stretch_at tape at) room found).state ≡ s
-    by_reading (place.Line start end) stopped = by_number (eqb answer.number 0) end refl stopped
+    by_reading (place.Line start end) stopped =
+        let ws = stretch_at tape at in
+        refused_line_state s ws room (λ zero. rw (eq-eqb (line_answer s ws room).number 0 zero) at stopped)
     by_reading place.Ended stopped = refl
-    by_reading (place.Refused n) stopped = refl
+    by_reading (place.Refused r) stopped = refl
 
 -- What holds of no line, of one line before a replay of which it holds, and of a replay that stops, holds of every replay.
 pub over_replay :

@@ -3,3 +3,4 @@ pub mod Play
 pub mod PlayRows
 pub mod Replay
 pub mod TapeDemand3
+pub mod Verdict

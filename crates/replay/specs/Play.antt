@@ -1,15 +1,15 @@
 -- Playing one line of a tape: reading first, then the line.
 use Rattle.std.specs.Prelude.{ℕ, ◌≡◌, cond, List, eqb}
+use Rattle.refusal.specs.Refusal.{number_of}
 use Rattle.tape.specs.declared.reading.Place.{Place}
 use Rattle.tape.specs.declared.reading.Place.TheVariants.{Line, Ended, Refused}
 use Rattle.tape.specs.Reading.{read_at, stretch_at}
-use Rattle.tia.specs.declared.line_call.LineAnswer.{LineAnswer}
+use Rattle.tia.specs.Answers.{LineAnswer}
 use Rattle.tia.specs.declared.state.State.{State}
 use Rattle.tia.specs.Line.{Buffers, Rooms, rooms_of}
 use Rattle.tia.specs.Answers.{line_answer, line_buffers}
-use Rattle.replay.specs.declared.play.PlayAnswer.{PlayAnswer}
-use Rattle.replay.specs.declared.play.Verdict.{Verdict}
-use Rattle.replay.specs.declared.play.Verdict.TheVariants as verdict
+use Rattle.replay.specs.Verdict.{Verdict, PlayAnswer}
+use Rattle.replay.specs.Verdict as verdict
 
 -- The verdict on a line by the line call's refusal; number 0, accepted. The line's end is the next place.
 abbrev pub line_verdict : (number index end : ℕ) → Verdict
@@ -22,7 +22,7 @@ played_line answer end = record { verdict = line_verdict answer.number answer.in
 abbrev pub played_at : State → (writes : List ℕ) → Rooms → Place → PlayAnswer
 played_at s ws room (Line start end) = played_line (line_answer s ws room) end
 played_at s ws room Ended = record { verdict = verdict.Ended; state = s }
-played_at s ws room (Refused n) = record { verdict = verdict.Refused n 0; state = s }
+played_at s ws room (Refused r) = record { verdict = verdict.Refused (number_of r) 0; state = s }
 
 unfoldable pub play_answer : State → (tape : List ℕ) (place : ℕ) → Rooms → PlayAnswer
 play_answer s tape place room = played_at s (stretch_at tape place) room (read_at tape place)
@@ -31,7 +31,7 @@ play_answer s tape place room = played_at s (stretch_at tape place) room (read_a
 abbrev pub buffers_at : State → (writes : List ℕ) → Buffers → Place → Buffers
 buffers_at s ws lent (Line start end) = line_buffers s ws lent
 buffers_at s ws lent Ended = lent
-buffers_at s ws lent (Refused n) = lent
+buffers_at s ws lent (Refused r) = lent
 
 unfoldable pub play_buffers : State → (tape : List ℕ) (place : ℕ) → Buffers → Buffers
 play_buffers s tape place lent = buffers_at s (stretch_at tape place) lent (read_at tape place)

@@ -4,8 +4,7 @@ use Rattle.tape.specs.Reading.{version1, stretch_at}
 use Rattle.tia.specs.declared.state.State.{State}
 use Rattle.tia.specs.State.{start_state}
 use Rattle.tia.specs.Line.{line_of, Buffers, line_rooms, pictures}
-use Rattle.replay.specs.declared.play.Verdict.{Verdict}
-use Rattle.replay.specs.declared.play.Verdict.TheVariants.{Played, Ended, Refused}
+use Rattle.replay.specs.Verdict.{Verdict, Played, Ended, Refused}
 use Rattle.replay.specs.Play.{play_answer}
 
 -- A line that was played: its writes as the tape holds them, its object bytes and colours, and the state after it.

@@ -3,4 +3,4 @@
 
 mod play;
 
-pub use play::{PlayAnswer, Verdict, play_line};
+pub use play::play_line;

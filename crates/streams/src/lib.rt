@@ -12,18 +12,17 @@ fn read_once<R: Read>(reader: &mut R, room: &mut [u8]) -> usize
     ensures within { result ≤ length room.new }
     ensures bytes { Consumes (R.remaining reader.old) (R.remaining reader.new) (take result room.new) }
 {
-    match reader.read(room) {
-        Ok(count) => count,
-        Err(_) => 0,
-    }
+    reader.read(room).unwrap_or(0)
 }
 
 // Reads until the room is full, the input ends or a read fails, and answers how many bytes stand at the room's start: the next ones
-// of the reader, where these are known.
+// of the reader, where these are known. A count and no part of the room: clause `bytes` says what the room holds afterwards, which no
+// clause can say of a room that the answer borrows.
 pub fn read_full<R: Read>(reader: &mut R, room: &mut [u8]) -> usize
     ensures within { result ≤ length room.new }
     ensures bytes { Consumes (R.remaining reader.old) (R.remaining reader.new) (take result room.new) }
 {
+    // Not a `for`: how far a turn goes is what the reader gives.
     let mut done = 0;
     while done < room.len() {
         let count = read_once(reader, &mut room[done..]);
@@ -41,11 +40,8 @@ pub fn unless_closed(written: io::Result<()>) -> io::Result<()>
     ensures closed { IfErr written (λ error. error_kind error ≡ ErrorKind.BrokenPipe → IsOk result) }
     ensures failed { IfErr written (λ error. error_kind error ≢ ErrorKind.BrokenPipe → result ≡ written) }
 {
-    let Err(error) = written else {
-        return Ok(());
-    };
-    if error.kind() == ErrorKind::BrokenPipe {
-        return Ok(());
+    match written {
+        Err(error) if error.kind() == ErrorKind::BrokenPipe => Ok(()),
+        written => written,
     }
-    Err(error)
 }

@@ -1,7 +1,9 @@
 -- A tape: what stands at a place, and the stretch of a line's writes.
 use Rattle.std.specs.Prelude.{ℕ, ◌+◌, ◌*◌, ◌-◌, ◌≡◌, Bool, true, cond, ◌||◌, not, List, [], ◌∷◌, eqb, ltb, length, get_or, take, drop}
 use Rattle.std.specs.Borrow.{Bor}
-use Rattle.laws.specs.Numbers.{bad_length, for_list_length, for_version, for_tape_end}
+use Rattle.laws.specs.Numbers.{bad_length}
+use Rattle.refusal.specs.declared.Refusal.TheVariants.{ListLength, Version, TapeEnd}
+use Rattle.refusal.specs.Refusal.{number_of}
 use Rattle.tape.specs.declared.reading.Place.{Place}
 use Rattle.tape.specs.declared.reading.Place.TheVariants.{Line, Ended, Refused}
 
@@ -31,25 +33,25 @@ unfoldable pub line_at : Form → List ℕ → (place : ℕ) → Place
 line_at form tape place =
     let start = place + form.ahead in
     let bytes = form.announced tape place in
-    cond (ltb (length tape) start) (Refused for_tape_end)
-    (cond (bad_length bytes) (Refused for_list_length)
-    (cond (ltb (length tape) (start + bytes)) (Refused for_tape_end) (Line start (start + bytes))))
+    cond (ltb (length tape) start) (Refused TapeEnd)
+    (cond (bad_length bytes) (Refused ListLength)
+    (cond (ltb (length tape) (start + bytes)) (Refused TapeEnd) (Line start (start + bytes))))
 
 -- What stands at a place. Refusal 9 for a place that is 0 or past the tape's end; at the end, the tape has ended.
 unfoldable pub place_at : Form → List ℕ → (place : ℕ) → Place
 place_at form tape place =
-    cond (ltb place form.first || ltb (length tape) place) (Refused for_tape_end)
+    cond (ltb place form.first || ltb (length tape) place) (Refused TapeEnd)
     (cond (eqb place (length tape)) Ended (line_at form tape place))
 
 -- Reading at a place: 8, then 9 for the place or a lone length byte, then 4, then 9.
 unfoldable pub read_at : List ℕ → (place : ℕ) → Place
-read_at tape place = cond (bad_version tape) (Refused for_version) (place_at version1 tape place)
+read_at tape place = cond (bad_version tape) (Refused Version) (place_at version1 tape place)
 
 -- The stretch of the tape that a reading names; empty where it names none.
 abbrev pub stretch_of : List ℕ → Place → List ℕ
 stretch_of tape (Line start end) = take (end - start) (drop start tape)
 stretch_of tape Ended = []
-stretch_of tape (Refused n) = []
+stretch_of tape (Refused r) = []
 
 unfoldable pub stretch_at : List ℕ → (place : ℕ) → List ℕ
 stretch_at tape place = stretch_of tape (read_at tape place)
@@ -58,7 +60,7 @@ stretch_at tape place = stretch_of tape (read_at tape place)
 abbrev pub start_of : Place → ℕ
 start_of (Line start end) = start
 start_of Ended = 0
-start_of (Refused n) = 0
+start_of (Refused r) = 0
 
 unfoldable pub start_at : List ℕ → (place : ℕ) → ℕ
 start_at tape place = start_of (read_at tape place)
@@ -78,7 +80,7 @@ pub record PlaceAnswer : Type 0 where
 abbrev pub place_answer : Place → PlaceAnswer
 place_answer (Line start end) = record { case = 0; number = 0; index = 0; start = start; end = end }
 place_answer Ended = record { case = 1; number = 0; index = 0; start = 0; end = 0 }
-place_answer (Refused n) = record { case = 2; number = n; index = 0; start = 0; end = 0 }
+place_answer (Refused r) = record { case = 2; number = number_of r; index = 0; start = 0; end = 0 }
 
 abbrev pub read_answer : List ℕ → (place : ℕ) → PlaceAnswer
 read_answer tape place = place_answer (read_at tape place)

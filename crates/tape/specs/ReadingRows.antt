@@ -2,6 +2,7 @@
 use Rattle.std.specs.Prelude.{ℕ, ◌+◌, ◌-◌, ◌≤◌, ◌<◌, ◌≡◌, ◌⊎◌, false, List, [], ◌∷◌, length, get_or}
 use Rattle.laws.specs.Refusal.{Row, row}
 use Rattle.laws.specs.Numbers.{bad_length, BadLength, for_list_length, for_version, for_tape_end}
+use Rattle.refusal.specs.Refusal.{number_of}
 use Rattle.tape.specs.declared.reading.Place.{Place}
 use Rattle.tape.specs.declared.reading.Place.TheVariants.{Line, Ended, Refused}
 use Rattle.tape.specs.Reading.{version1}
@@ -49,4 +50,4 @@ pub record LineThere (tape : List ℕ) (place start end : ℕ) : Type 0 where
 abbrev pub Answered : List ℕ → (place : ℕ) → Place → Type 0
 Answered tape place (Line start end) = LineThere tape place start end
 Answered tape place Ended = place ≡ length tape
-Answered tape place (Refused n) = n ≡ 0 → ⊥
+Answered tape place (Refused r) = number_of r ≡ 0 → ⊥

@@ -2,7 +2,6 @@
 #![tactic(auto)]
 
 mod reading;
-mod refusal;
 mod stretch;
 
 pub use reading::{FIRST_PLACE, LONGEST_TAPE, Place, read_at};

@@ -6,7 +6,7 @@ use Prim.Native.Nat.{ℕ}
 use borrow.Author.Tests.{eq-eqb, eqb-false}
 use lib.Dec.{eqb}
 use lib.ListN.{length}
-use Rattle.tia.specs.declared.line_call.LineAnswer.{LineAnswer}
+use Rattle.tia.specs.Answers.{LineAnswer}
 use Rattle.tia.specs.declared.state.State.{State}
 use Rattle.tia.specs.State.{bad_state}
 use Rattle.tia.specs.WriteList.{records_of, first_fault, list_fault}

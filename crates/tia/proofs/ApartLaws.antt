@@ -3,9 +3,11 @@ use mathlib.Core.Path.{◌≡◌, ◌∙◌, refl, sym, ap}
 use mathlib.Core.Bool.{Bool, true, false, cond, ◌||◌, not, true≢false}
 use mathlib.Core.List.{List, [], ◌∷◌}
 use Prim.Native.Nat.{ℕ, zero, suc}
+use native.Mathlib.Omega.{arith}
 use borrow.Author.Tests.{eqb-true}
 use lib.Dec.{eqb}
 use lib.ListN.{drop}
+use Rattle.std.proofs.lemmas.Bool.Decides.{nat_tests}
 use Rattle.tia.specs.declared.clock.Clocked.{Clocked}
 use Rattle.tia.specs.declared.state.State.{State}
 use Rattle.tia.specs.declared.write.Write.{Write}
@@ -124,11 +126,9 @@ known_colour = each_colour (λ a. not (known a) ≡ false) refl refl refl refl
 unknown_outside : (w : Write) → unknown w ≡ unknown (outside is_colour w)
 unfolding unknown
 unknown_outside Nothing = refl
-unknown_outside (Register a v) = by_test (is_colour a) refl
-  where
-    by_test : (b : Bool) → is_colour a ≡ b → not (known a) ≡ unknown (cond b Nothing (Register a v))
-    by_test true e = known_colour a e
-    by_test false e = refl
+unknown_outside (Register a v) =
+    let colour = known_colour a in
+    grind (arith, nat_tests)
 
 pub clock_apart : ClockApart
 unfolding clock_answer

@@ -4,6 +4,7 @@ use mathlib.Core.Logic.{⊎_elim}
 use mathlib.Core.Bool.{Bool, true, false, cond, ◌&&◌}
 use Prim.Native.Nat.{ℕ, zero, suc, ◌+◌, ◌%◌, ◌<◌, ◌≤◌}
 use native.Mathlib.Omega.{arith}
+use Rattle.std.proofs.lemmas.Bool.Decides.{nat_tests}
 use Rattle.laws.proofs.Split.{split}
 use Rattle.tia.specs.declared.drawing.Drawing.{Drawing}
 use Rattle.tia.specs.declared.lit.Lit.{Lit}
@@ -128,8 +129,7 @@ drawn_on pulse start copies age size d =
     cond pulse (next_drawing start (cond start 0 (cond pulse (older age) age)) size (size_of copies) d) d
 
 pub size_kept : (start : Bool) (size held : ℕ) → held ≡ size → cond start size held ≡ size
-size_kept true size held e = refl
-size_kept false size held e = e
+size_kept start size held e = grind (arith, nat_tests)
 
 abbrev starts_at : (pulse : Bool) (copies position : ℕ) → Bool
 starts_at pulse copies p = pulse && starts copies (reached pulse p)

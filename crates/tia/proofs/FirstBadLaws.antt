@@ -1,17 +1,19 @@
 -- The first bad record of a write list: the check gives its number and its index.
 use mathlib.Core.Path.{◌≡◌, ◌∙◌, refl, sym, ap}
-use mathlib.Core.Logic.{◌↔◌}
+use mathlib.Core.Logic.{◌↔◌, ⊎_elim}
 use mathlib.Core.List.{List, [], ◌∷◌}
-use mathlib.Core.Bool.{Bool, true, false, cond, not}
+use mathlib.Core.Bool.{cond, not}
 use Prim.Native.Nat.{ℕ, zero, suc, ◌+◌}
 use native.Mathlib.Nat.{add-zero, zero-add, add-suc, suc-add}
 use native.Mathlib.Omega.{arith}
 use borrow.Author.Tests.{ne_eqb, eqb-true, eqb-false}
 use lib.Dec.{eqb, ltb}
+use Rattle.std.proofs.lemmas.Bool.{cases_eq}
+use Rattle.std.proofs.lemmas.Bool.Decides.{nat_tests}
 use Rattle.laws.specs.Refusal.{GivenInOrder}
 use Rattle.laws.proofs.Decides.{Decides, less, misses}
 use Rattle.laws.proofs.Refusals.{Check, check, in_order, only_first}
-use Rattle.tia.specs.declared.write_list.Fault.{Fault}
+use Rattle.tia.specs.WriteList.{FaultNumbers}
 use Rattle.tia.specs.Write.{known}
 use Rattle.laws.specs.Numbers.{for_clock_over, for_clock_order, for_unknown_register}
 use Rattle.tia.specs.WriteList.{TimedWrite, record_fault, first_fault, fault_at}
@@ -55,17 +57,14 @@ fault_bad_record :
 unfolding first_fault
 fault_bad_record index least [] n bad e = absurd (bad (sym e))
 fault_bad_record index least (r ∷ rs) n bad e =
-    by_test (eqb (fault_of least r) 0) refl e (fault_bad_record (suc index) (r.clock + 1) rs n bad)
-  where
-    by_test :
-        (b : Bool) → eqb (fault_of least r) 0 ≡ b →
-        (cond b (first_fault (suc index) (r.clock + 1) rs) (fault_at (fault_of least r) index)).number ≡ n →
-        ((first_fault (suc index) (r.clock + 1) rs).number ≡ n → (i : ℕ) × FirstBad (r.clock + 1) rs n i) →
-        (i : ℕ) × FirstBad least (r ∷ rs) n i
-    by_test true t e later =
-        let found = later e in
-        (suc found.0, (rw (eqb-true (fault_of least r) 0 t) at (record_given least r), found.1))
-    by_test false t e later = (zero, (rw e at (record_given least r), bad))
+    ⊎_elim
+    (λ (none : fault_of least r ≡ 0).
+    let found = fault_bad_record (suc index) (r.clock + 1) rs n bad (grind (arith, nat_tests)) in
+    (suc found.0, (rw none at (record_given least r), found.1)))
+    (λ (given : fault_of least r ≡ 0 → ⊥).
+    let same : fault_of least r ≡ n = grind (arith, nat_tests) in
+    (zero, (rw same at (record_given least r), bad)))
+    (cases_eq (fault_of least r) 0)
 
 -- The check gives a number and an index exactly where that record is the first bad one and that row refuses it.
 pub first_bad_exactly :
@@ -74,8 +73,8 @@ first_bad_exactly rs n i bad = (by_index, λ first. bad_gives 0 0 rs n i first �
   where
     by_index : first_fault 0 0 rs ≡ fault_at n i → FirstBad 0 rs n i
     by_index e =
-        let found = fault_bad_record 0 0 rs n bad (ap (λ (f : Fault). f.number) e) in
-        let same : found.0 ≡ i = sym (zero-add found.0) ∙ ap (λ (f : Fault). f.index) (sym (bad_gives 0 0 rs n found.0 found.1) ∙ e) in
+        let found = fault_bad_record 0 0 rs n bad (ap (λ (f : FaultNumbers). f.number) e) in
+        let same : found.0 ≡ i = sym (zero-add found.0) ∙ ap (λ (f : FaultNumbers). f.index) (sym (bad_gives 0 0 rs n found.0 found.1) ∙ e) in
         rw same at found.1
 
 -- So its number decides rows 5, 6 and 7 for a list.
@@ -84,7 +83,7 @@ list_decided rs n bad =
     record {
       holds = λ e. fault_bad_record 0 0 rs n bad (eqb-true (first_fault 0 0 rs).number n e);
       fails = λ e found.
-          eqb-false (first_fault 0 0 rs).number n e (ap (λ (f : Fault). f.number) (bad_gives 0 0 rs n found.0 found.1));
+          eqb-false (first_fault 0 0 rs).number n e (ap (λ (f : FaultNumbers). f.number) (bad_gives 0 0 rs n found.0 found.1));
     }
 
 -- It gives no other number but 0, and 0 with index 0.
@@ -95,51 +94,26 @@ of_record n =
 
 record_number : (least : ℕ) (r : TimedWrite) → fault_of least r ≡ of_record (fault_of least r)
 unfolding record_fault
-record_number least r = by_tests (ltb 227 r.clock) (ltb r.clock least) (not (known r.address))
-  where
-    by_tests :
-        (over below new : Bool) →
-        cond over for_clock_over (cond below for_clock_order (cond new for_unknown_register 0))
-        ≡ of_record (cond over for_clock_over (cond below for_clock_order (cond new for_unknown_register 0)))
-    by_tests true below new = refl
-    by_tests false true new = refl
-    by_tests false false true = refl
-    by_tests false false false = refl
+record_number least r = grind (arith, nat_tests)
 
 pub fault_number :
     (index least : ℕ) (rs : List TimedWrite) → (first_fault index least rs).number ≡ of_record (first_fault index least rs).number
 unfolding first_fault
 fault_number index least [] = refl
-fault_number index least (r ∷ rs) = by_test (eqb (fault_of least r) 0) (fault_number (suc index) (r.clock + 1) rs)
-  where
-    by_test :
-        (b : Bool) →
-        (first_fault (suc index) (r.clock + 1) rs).number ≡ of_record (first_fault (suc index) (r.clock + 1) rs).number →
-        (cond b (first_fault (suc index) (r.clock + 1) rs) (fault_at (fault_of least r) index)).number
-        ≡ of_record (cond b (first_fault (suc index) (r.clock + 1) rs) (fault_at (fault_of least r) index)).number
-    by_test true later = later
-    by_test false later = record_number least r
+fault_number index least (r ∷ rs) =
+    let later = fault_number (suc index) (r.clock + 1) rs in
+    let here = record_number least r in
+    grind (arith, nat_tests)
 
 none_index : (index least : ℕ) (rs : List TimedWrite) → (first_fault index least rs).number ≡ 0 → (first_fault index least rs).index ≡ 0
 unfolding first_fault
 none_index index least [] e = refl
-none_index index least (r ∷ rs) e = by_test (eqb (fault_of least r) 0) refl e (none_index (suc index) (r.clock + 1) rs)
-  where
-    by_test :
-        (b : Bool) → eqb (fault_of least r) 0 ≡ b →
-        (cond b (first_fault (suc index) (r.clock + 1) rs) (fault_at (fault_of least r) index)).number ≡ 0 →
-        ((first_fault (suc index) (r.clock + 1) rs).number ≡ 0 → (first_fault (suc index) (r.clock + 1) rs).index ≡ 0) →
-        (cond b (first_fault (suc index) (r.clock + 1) rs) (fault_at (fault_of least r) index)).index ≡ 0
-    by_test true t e later = later e
-    by_test false t e later = absurd (eqb-false (fault_of least r) 0 t e)
+none_index index least (r ∷ rs) e =
+    let later = none_index (suc index) (r.clock + 1) rs in
+    grind (arith, nat_tests)
 
 other_none : (n : ℕ) → (OfRecord n → ⊥) → of_record n ≡ 0
-other_none n other =
-    rw (
-      ne_eqb n for_clock_over (λ e. other (omega arith, omega arith)),
-      ne_eqb n for_clock_order (λ e. other (omega arith, omega arith)),
-      ne_eqb n for_unknown_register (λ e. other (omega arith, omega arith)),
-    )
+other_none n other = grind (arith, nat_tests)
 
 -- Its index is 0 where it gives 0, and otherwise exactly that of the first bad record.
 pub list_index : (rs : List TimedWrite) → IndexGiven rs (first_fault 0 0 rs).number (first_fault 0 0 rs).index
@@ -148,5 +122,5 @@ list_index rs =
       λ other. none_index 0 0 rs (fault_number 0 0 rs ∙ other_none fault.number other),
       λ i of-record.
           let exactly = first_bad_exactly rs fault.number i (λ e. omega arith) in
-          (λ e. exactly.0 (ap (fault_at fault.number) e), λ first. ap (λ (f : Fault). f.index) (exactly.1 first)),
+          (λ e. exactly.0 (ap (fault_at fault.number) e), λ first. ap (λ (f : FaultNumbers). f.index) (exactly.1 first)),
     )

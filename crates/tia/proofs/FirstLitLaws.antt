@@ -1,102 +1,81 @@
 -- The search for the first lit column: what is left of the buffer decides it; and its answers by their numbers.
-use mathlib.Core.Path.{◌≡◌, refl, sym}
+use mathlib.Core.Path.{◌≡◌, ◌∙◌, refl, sym}
 use mathlib.Core.Bool.{Bool, true, false, cond, not}
-use mathlib.Core.List.{List}
-use Prim.Native.Nat.{ℕ, zero, suc, ◌+◌, ◌≤◌, ◌<◌}
+use mathlib.Core.List.{List, [], ◌∷◌}
+use Prim.Native.Nat.{ℕ, suc, ◌≤◌, ◌<◌}
 use native.Mathlib.Numerals.{add-one}
 use native.Mathlib.Omega.{arith}
-use borrow.Author.Count.{below_none, below_more}
-use borrow.Author.Tests.{eq-eqb, ne_eqb, lt-ltb, le-ltb, eqb-true}
+use borrow.Author.Tests.{eq-eqb, ne_eqb, lt-ltb, le-ltb, eqb-true, ltb-true, ltb-false}
 use lib.Dec.{eqb, ltb}
-use lib.ListN.{length, get_or, drop, drop_of_length-le}
-use Rattle.laws.proofs.OneToOne.{one_to_one}
-use Rattle.tia.specs.declared.first_lit.FirstLit.{FirstLit}
-use Rattle.tia.specs.declared.first_lit.FirstLit.TheVariants.{Column, Unlit, Refused}
-use Rattle.laws.specs.Numbers.{for_buffer_length, for_no_such}
-use Rattle.tia.specs.FirstLit.{shows, first_from, first_lit_of, ColumnAnswer, column_answer}
+use lib.ListN.{length}
+use Rattle.std.specs.List.{position_from, position_or_len}
+use Rattle.std.proofs.lemmas.Iterator.Adapters.{position_from-zero}
+use Rattle.std.proofs.lemmas.List.Sums.{fails_before_first, passes_at_first}
+use Rattle.std.specs.Prelude.{Option, Some, None, Result, Ok, Err}
+use Rattle.refusal.specs.declared.Refusal.{Refusal}
+use Rattle.refusal.specs.declared.Refusal.TheVariants.{BufferLength, NoSuch}
+use Rattle.refusal.proofs.NumberLaws.{same_refusal}
+use Rattle.tia.specs.FirstLit.{shows, first_from, first_lit_of, column_answer}
 use Rattle.tia.specs.LineRows.{DarkBelow, Smallest}
-use Rattle.tia.proofs.CursorLaws.{left_at}
 
 -- Equal numbers mean equal answers.
-column_back : ColumnAnswer → FirstLit
-column_back a = cond (eqb a.case 0) (Column a.column) (cond (eqb a.case 1) Unlit (Refused a.number))
-
-column_inverse : (a : FirstLit) → column_back (column_answer a) ≡ a
-unfolding column_back
-column_inverse (Column x) = refl
-column_inverse Unlit = refl
-column_inverse (Refused n) = refl
-
-pub same_column : {a b : FirstLit} → column_answer a ≡ column_answer b → a ≡ b
-same_column e = one_to_one column_answer column_back column_inverse e
+pub same_column : {a b : Result (Option ℕ) Refusal} → column_answer a ≡ column_answer b → a ≡ b
+same_column {a = Ok (Some x)} {b = b} e = grind (arith, same_refusal)
+same_column {a = Ok None} {b = b} e = grind (arith, same_refusal)
+same_column {a = Err refusal} {b = b} e = grind (arith, same_refusal)
 
 -- The answer by cases: refusal 3, refusal 10, or the search from column 0.
-pub room_refused : (buffer : List ℕ) (object : ℕ) → (length buffer ≡ 160 → ⊥) → first_lit_of buffer object ≡ Refused for_buffer_length
+pub room_refused : (buffer : List ℕ) (object : ℕ) → (length buffer ≡ 160 → ⊥) → first_lit_of buffer object ≡ Err BufferLength
 unfolding first_lit_of
 room_refused buffer object ne = rw (ne_eqb (length buffer) 160 ne)
 
-pub object_refused : (buffer : List ℕ) (object : ℕ) → length buffer ≡ 160 → 5 < object → first_lit_of buffer object ≡ Refused for_no_such
+pub object_refused : (buffer : List ℕ) (object : ℕ) → length buffer ≡ 160 → 5 < object → first_lit_of buffer object ≡ Err NoSuch
 unfolding first_lit_of
 object_refused buffer object room h = rw (eq-eqb (length buffer) 160 room, lt-ltb 5 object h)
 
-searched : (buffer : List ℕ) (object : ℕ) → length buffer ≡ 160 → object ≤ 5 → first_lit_of buffer object ≡ first_from object 0 buffer
-unfolding first_lit_of
-searched buffer object room h = rw (eq-eqb (length buffer) 160 room, le-ltb 5 object h)
+-- The search from a column on is that for the first byte that shows the object.
+pub first_is_position : (object x : ℕ) (bytes : List ℕ) → first_from object x bytes ≡ position_from (shows object) x bytes
+unfolding first_from
+first_is_position object x [] = refl
+first_is_position object x (byte ∷ bytes) =
+    let later : first_from object (suc x) bytes ≡ position_from (shows object) (suc x) bytes = first_is_position object (suc x) bytes in
+    rw (later, add-one x)
 
--- The search under way: the columns from x on decide the answer.
-pub record Searching (buffer : List ℕ) (object x : ℕ) : Type 0 where
-  pub inside : x ≤ 160
-  pub decides : first_from object x (drop x buffer) ≡ first_lit_of buffer object
-
-pub search_starts : (buffer : List ℕ) (object : ℕ) → length buffer ≡ 160 → object ≤ 5 → Searching buffer object 0
-search_starts buffer object room h = record { inside = omega arith; decides = sym (searched buffer object room h) }
-
-module _ (buffer : List ℕ) (object x : ℕ) (room : length buffer ≡ 160) (now : Searching buffer object x) where
-  pub search_goes_on : x < 160 → shows object (get_or buffer x 0) ≡ false → Searching buffer object (x + 1)
-  unfolding first_from
-  search_goes_on h dark =
-      record {
-        inside = omega arith;
-        decides = rw add-one (rw (left_at buffer x (x + 1) refl (omega arith), dark, add-one) at now.decides);
-      }
-
-  pub search_finds : x < 160 → shows object (get_or buffer x 0) ≡ true → Column x ≡ first_lit_of buffer object
-  unfolding first_from
-  search_finds h lit = rw (left_at buffer x (x + 1) refl (omega arith), lit) at now.decides
-
-  pub search_ends : 160 ≤ x → Unlit ≡ first_lit_of buffer object
-  unfolding first_from
-  search_ends h =
-      let end : length buffer ≤ x = omega arith in
-      rw (drop_of_length-le buffer end) at now.decides
-
--- The search from a column on, with none lit below it, finds the smallest.
-module _ (buffer : List ℕ) (object : ℕ) (room : length buffer ≡ 160) where
-  search_smallest :
-      (k x : ℕ) → k + x ≡ 160 → DarkBelow buffer object x → Smallest buffer object (first_from object x (drop x buffer))
-  unfolding first_from
-  search_smallest zero x e dark =
-      let end : x ≡ 160 = omega arith in
-      let all : length buffer ≤ x = omega arith in
-      rw (drop_of_length-le buffer all) (rw end at dark)
-  search_smallest (suc k) x e dark =
-      rw (left_at buffer x (x + 1) refl (omega arith)) (by_test (shows object (get_or buffer x 0)) refl (search_smallest k (x + 1) (omega arith)))
-    where
-      by_test :
-          (b : Bool) → shows object (get_or buffer x 0) ≡ b →
-          (DarkBelow buffer object (x + 1) → Smallest buffer object (first_from object (x + 1) (drop (x + 1) buffer))) →
-          Smallest buffer object (cond b (Column x) (first_from object (suc x) (drop (x + 1) buffer)))
-      by_test true lit later = (omega arith, (lit, dark))
-      by_test false none later = rw (← add-one x) (later (below_more _ x dark none))
+first_found :
+    (object : ℕ) (buffer : List ℕ) →
+    let first = position_or_len (shows object) buffer in first_from object 0 buffer ≡ cond (ltb first (length buffer)) (Some first) None
+first_found object buffer = first_is_position object 0 buffer ∙ sym (position_from-zero (shows object) buffer)
 
 -- The column given is the smallest that shows the object, and none is given only where none shows it.
 pub first_lit_smallest : (buffer : List ℕ) (object : ℕ) → Smallest buffer object (first_lit_of buffer object)
 unfolding first_lit_of
 first_lit_smallest buffer object = by_tests (eqb (length buffer) 160) refl (ltb 5 object)
   where
+    first : ℕ
+    first = position_or_len (shows object) buffer
+
+    dark : DarkBelow buffer object first
+    dark y h = fails_before_first (shows object) buffer y 0 h
+
+    by_found :
+        (found : Bool) → ltb first (length buffer) ≡ found → length buffer ≡ 160 →
+        Smallest buffer object (Ok (cond found (Some first) None))
+    by_found true e room =
+        let h = ltb-true first (length buffer) e in
+        (omega (arith, h, room), (passes_at_first (shows object) buffer 0 h, dark))
+    by_found false e room = λ y h. dark y (omega (arith, ltb-false first (length buffer) e, room, h))
+
     by_tests :
         (full : Bool) → eqb (length buffer) 160 ≡ full → (over : Bool) →
-        Smallest buffer object (cond (not full) (Refused for_buffer_length) (cond over (Refused for_no_such) (first_from object 0 buffer)))
+        Smallest buffer object (cond (not full) (Err BufferLength) (cond over (Err NoSuch) (Ok (first_from object 0 buffer))))
     by_tests false e over = tt
     by_tests true e true = tt
-    by_tests true e false = search_smallest buffer object (eqb-true (length buffer) 160 e) 160 0 refl (below_none _)
+    by_tests true e false = rw (first_found object buffer) (by_found _ refl (eqb-true (length buffer) 160 e))
+
+-- What the search for a position gives is the first lit column.
+pub position_is_first :
+    (buffer : List ℕ) (object : ℕ) (found : Option ℕ) → length buffer ≡ 160 → object ≤ 5 →
+    found ≡ cond (ltb (position_or_len (shows object) buffer) (length buffer)) (Some (position_or_len (shows object) buffer)) None →
+    Ok found ≡ first_lit_of buffer object
+unfolding first_lit_of
+position_is_first buffer object found room h e = rw (eq-eqb (length buffer) 160 room, le-ltb 5 object h, first_found object buffer, e)

@@ -1,25 +1,24 @@
 -- Every clock keeps a good state good, whatever byte is written.
-use mathlib.Core.Path.{◌≡◌, refl}
-use mathlib.Core.Bool.{Bool, true, false, cond, ◌&&◌, ◌||◌, not, and-false, true≢false}
+use mathlib.Core.Path.{◌≡◌}
+use mathlib.Core.Bool.{Bool, true, false, cond, ◌&&◌, ◌||◌, not, and-false}
 use Prim.Native.Nat.{ℕ, ◌+◌}
 use native.Mathlib.Omega.{arith}
-use borrow.Author.Tests.{eq-eqb}
 use lib.Dec.{eqb}
-use Rattle.laws.proofs.Bools.{and_both, and_first, and_second, or_neither, or_first, or_second}
+use Rattle.std.proofs.lemmas.Bool.Decides.{nat_tests}
+use Rattle.laws.proofs.Bools.{or_neither}
 use Rattle.tia.specs.declared.object.Object.{Object}
 use Rattle.tia.specs.declared.registers.Registers.{Registers}
 use Rattle.tia.specs.declared.state.Objects.{Objects}
 use Rattle.tia.specs.declared.state.State.{State}
 use Rattle.tia.specs.declared.timing.Timing.{Timing}
 use Rattle.tia.specs.declared.write.Write.{Write}
-use Rattle.tia.specs.Write.{ByteWritten, HMBL, HMM0, HMM1, HMP0, HMP1, RESBL, RESM0, RESM1, RESP0, RESP1, HMOVE, hits, unknown}
+use Rattle.tia.specs.Write.{ByteWritten, HMBL, HMM0, HMM1, HMP0, HMP1, RESBL, RESM0, RESM1, RESP0, RESP1, HMOVE, hits}
 use Rattle.tia.specs.Registers.{registers_after}
-use Rattle.tia.specs.State.{timing_in_range, objects_in_range, registers_in_range, in_range, any_live, bad_state}
+use Rattle.tia.specs.State.{in_range, any_live, bad_state}
 use Rattle.tia.specs.Timing.{timing_written, comparing, timing_after}
 use Rattle.tia.specs.Object.{equal_slot, object_written, object_moved, object_after, player_after, missile_after, ball_after}
 use Rattle.tia.specs.Clock.{objects_after, clock_of}
-use Rattle.laws.specs.Numbers.{for_unknown_register}
-use Rattle.tia.specs.Answers.{refused_clock, given_clock, clock_answer}
+use Rattle.tia.specs.Answers.{clock_answer}
 use Rattle.tia.proofs.StateLaws.{good_in_range, good_rest, good_by}
 use Rattle.tia.proofs.RangeLaws.{registers_stay, colours_stay, objects_stay, timing_stays}
 use Rattle.tia.proofs.TrackLaws.{tick_at}
@@ -29,12 +28,7 @@ rest_live :
     (compares hit live equal : Bool) (slot : ℕ) → (hit ≡ true → compares ≡ false) → (slot ≡ 16 → live ≡ false) →
     cond compares (cond hit 0 slot + 1) (cond hit 0 slot) ≡ 16 →
     ((hit || live) && not (compares && (equal || eqb (cond hit 0 slot) 15))) ≡ false
-rest_live true true live equal slot never rest e = absurd (true≢false (never refl))
-rest_live true false true true slot never rest e = refl
-rest_live true false true false slot never rest e = rw (eq-eqb slot 15 (omega arith))
-rest_live true false false equal slot never rest e = refl
-rest_live false true live equal slot never rest e = absurd (omega arith)
-rest_live false false live equal slot never rest e = rw (rest e)
+rest_live compares hit live equal slot never rest e = grind (arith, nat_tests)
 
 pub hmove_waits : (w : Write) (t : Timing) → hits w HMOVE ≡ true → comparing w t ≡ false
 hmove_waits w t e = rw (e, and-false, and-false)
@@ -69,15 +63,12 @@ pub record NoneLive (os : Objects) : Type 0 where
 
 pub none_live : (os : Objects) → any_live os ≡ false → NoneLive os
 none_live os e =
-    let from1 = or_second os.p0.body.live _ e in
-    let missiles = or_second os.p1.body.live _ from1 in
-    let last = or_second os.m0.live _ missiles in
     record {
-      p0 = or_first os.p0.body.live _ e;
-      p1 = or_first os.p1.body.live _ from1;
-      m0 = or_first os.m0.live _ missiles;
-      m1 = or_first os.m1.live _ last;
-      bl = or_second os.m1.live _ last;
+      p0 = grind (arith, nat_tests);
+      p1 = grind (arith, nat_tests);
+      m0 = grind (arith, nat_tests);
+      m1 = grind (arith, nat_tests);
+      bl = grind (arith, nat_tests);
     }
 
 objects_rest :
@@ -100,25 +91,19 @@ pub good_stays : (s : State) (w : Write) → ByteWritten w → bad_state s ≡ f
 unfolding clock_of in_range
 good_stays s w byte good =
     let in-range = good_in_range s good in
-    let rest = and_second (timing_in_range s.timing) _ in-range in
-    let kept = and_second (objects_in_range s.objects) _ rest in
+    let timing = timing_stays w s.timing in
     let r = registers_after w s.registers in
+    let objects = objects_stay (tick_at w s.timing) r w s.objects in
+    let registers = registers_stay w s.registers byte in
+    let colours = colours_stay w s.colours byte in
     good_by
     (clock_of s w).state
-    (and_both
-    (timing_stays w s.timing (and_first (timing_in_range s.timing) _ in-range))
-    (and_both
-    (objects_stay (tick_at w s.timing) r w s.objects (and_first (objects_in_range s.objects) _ rest))
-    (and_both
-    (registers_stay w s.registers byte (and_first (registers_in_range s.registers) _ kept))
-    (colours_stay w s.colours byte (and_second (registers_in_range s.registers) _ kept)))))
+    (grind (arith, nat_tests))
     (objects_rest w s.timing r s.objects (λ at. none_live s.objects (good_rest s good at)))
 
 -- So a call from a good state hands a good state back, accepted or refused.
 pub answer_good : (s : State) (w : Write) → ByteWritten w → bad_state s ≡ false → bad_state (clock_answer s w).state ≡ false
 unfolding clock_answer
-answer_good s w byte good = rw good (by_test (unknown w))
-  where
-    by_test : (b : Bool) → bad_state (cond b (refused_clock for_unknown_register s) (given_clock (clock_of s w))).state ≡ false
-    by_test true = good
-    by_test false = good_stays s w byte good
+answer_good s w byte good =
+    let next = good_stays s w byte good in
+    grind (arith, nat_tests)

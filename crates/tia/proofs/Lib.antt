@@ -20,14 +20,15 @@ pub mod GoodLaws
 -- == The line call
 -- The clocks of a list that passed its check rise, and the write on a clock is found in what is left of it.
 pub mod RisingLaws
--- The code's cursor into the list gives the write that the definition looks up.
+-- The code's walk along the list gives the write that the definition looks up.
 pub mod CursorLaws
 -- A line is its 228 clocks: the state and the answer byte of each.
 pub mod LineLaws
--- The code's line under way: state, cursor and filled columns after each clock.
+-- The code's line under way: state, records left and filled columns after each clock.
 pub mod ScanlineLaws
--- The answers of clock, read-out and line, by the branches of the code.
+-- The answers of clock, read-out and line, by the branches of the code; equal numbers mean equal answers.
 pub mod AnswerLaws
+pub mod NumberLaws
 -- The search for the first lit column finds the smallest; equal numbers mean equal answers.
 pub mod FirstLitLaws
 -- == Refusals: given exactly when

@@ -52,12 +52,7 @@ unfolding after state_at
 over_clocks Holds next Kind step writes s a n zero kinds holds = rw add-zero holds
 over_clocks Holds next Kind step writes s a n (suc k) kinds holds =
     rw (add-suc n k)
-    (step
-    (state_at writes s (n + k))
-    (writes (n + k))
-    (after next k a)
-    (kinds (n + k) (omega arith) (omega arith))
-    (over_clocks Holds next Kind step writes s a n k (λ i l h. kinds i l (omega arith)) holds))
+    (step _ _ _ (kinds (n + k) (omega arith) (omega arith)) (over_clocks Holds next Kind step writes s a n k (λ i l h. kinds i l (omega arith)) holds))
 
 -- The clocks from n on start from the state before it.
 state_after_lem :
@@ -154,11 +149,7 @@ line_restarts s ws start =
     (λ h. (h + 1) % 228)
     (λ w. Unit {0})
     (λ s w h kind at. ap (λ (h : ℕ). (h + 1) % 228) at)
-    (writes_of ws)
-    s
-    0
-    0
-    228
+    _ s 0 0 228
     (λ i l h. tt)
     (rw (state_first (writes_of ws) s) start))
 

@@ -7,6 +7,7 @@ use native.Mathlib.Nat.{zero-add}
 use native.Mathlib.Omega.{arith}
 use borrow.Author.Tests.{lt-ltb, eqb-true}
 use lib.Dec.{T, eqb}
+use Rattle.std.proofs.lemmas.Bool.Decides.{nat_tests}
 use Rattle.laws.specs.Steps.{after}
 use Rattle.laws.proofs.Bools.{and_first, and_second, is_true, not_true, or_cases}
 use Rattle.laws.proofs.Table.{every_below, below}
@@ -111,14 +112,7 @@ hmove_step o s w p r early none move unstrobed idle =
     record {
       on =
           clock_track o s w
-          ∙ hmove_track
-          (motion_register_of o)
-          w
-          (track_of o s)
-          r.h
-          r.late
-          early
-          move
+          ∙ hmove_track (motion_register_of o) w (track_of o s) r.h r.late early move
           (one_register w HMOVE (motion_register_of o) move ∙ not_hmove o)
           (one_register w HMOVE HMCLR move)
           idle.timing;
@@ -173,14 +167,7 @@ ended :
 unfolding rest_next
 ended o s w p m rest still unmoved unstrobed moves =
     rebased o (clock_of s w).state p (suc m.pulses) 77 true
-    (idle_step
-    o
-    s
-    w
-    p
-    (record { h = 76; late = true; pulses = m.pulses })
-    unmoved
-    unstrobed
+    (idle_step o s w p (record { h = 76; late = true; pulses = m.pulses }) unmoved unstrobed
     (record {
       timing = ap (λ (t : Track). t.timing) moves.on ∙ rest;
       still = ap (λ (t : Track). t.live) moves.on ∙ still;
@@ -243,17 +230,16 @@ until_move o writes s p c late m idle =
     rest = after rest_next c (at_start late)
 
     passed : (b : Bool) → T (is_early c true && is_early c false) → (is_early c b) ≡ true
-    passed true t = and_first (is_early c true) (is_early c false) (is_true _ t)
-    passed false t = and_second (is_early c true) (is_early c false) (is_true _ t)
+    passed b t = let all = is_true _ t in grind (arith, nat_tests)
 
     both : (eqb rest.h c && eqb rest.pulses 0) ≡ true
     both = passed late (below 16 (λ c. is_early c true && is_early c false) early c (omega (arith, m.early)))
 
     at_clock : rest.h ≡ c
-    at_clock = eqb-true rest.h c (and_first (eqb rest.h c) _ both)
+    at_clock = grind (arith, nat_tests, both)
 
     without : rest.pulses ≡ 0
-    without = eqb-true rest.pulses 0 (and_second (eqb rest.h c) _ both)
+    without = grind (arith, nat_tests, both)
 
     here : Idle o (state_at writes s c) p rest
     here =

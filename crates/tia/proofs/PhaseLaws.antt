@@ -1,8 +1,9 @@
 -- The phases of a line for one object: at rest, moving after an HMOVE, and at rest again.
-use mathlib.Core.Path.{◌≡◌, ◌∙◌, refl, ap}
-use mathlib.Core.Bool.{Bool, true, false, cond}
+use mathlib.Core.Path.{◌≡◌, ◌∙◌, ap}
+use mathlib.Core.Bool.{Bool, false, cond}
 use Prim.Native.Nat.{ℕ, suc, ◌+◌, ◌%◌, ◌<◌, ◌≤◌}
 use native.Mathlib.Omega.{arith}
+use Rattle.std.proofs.lemmas.Bool.Decides.{nat_tests}
 use Rattle.laws.specs.Steps.{after}
 use Rattle.tia.specs.declared.state.State.{State}
 use Rattle.tia.specs.declared.write.Write.{Write}
@@ -18,8 +19,7 @@ use Rattle.tia.proofs.TrackLaws.{undisturbed_pulse, resting, visible_at, resting
 
 -- A position after one pulse more, or none.
 advanced : (pulse : Bool) (p q : ℕ) → reached pulse ((p + q) % 160) ≡ (p + cond pulse (suc q) q) % 160
-advanced true p q = omega arith
-advanced false p q = refl
+advanced pulse p q = grind (arith, nat_tests)
 
 -- The position after a clock without the object's strobe.
 pub stepped :
@@ -60,16 +60,7 @@ idle_step o s w p r unmoved unstrobed idle =
           ap (λ (t : Track). t.live) (clock_track o s w)
           ∙ resting_live (motion_register_of o) w (track_of o s) r.h r.late unmoved idle.timing idle.still;
       at =
-          stepped
-          o
-          s
-          w
-          (visible_at r.h r.late)
-          p
-          r.pulses
-          unstrobed
-          (resting_pulse (motion_register_of o) w (track_of o s) r.h r.late unmoved idle.timing)
-          idle.at;
+          stepped o s w _ p r.pulses unstrobed (resting_pulse _ w _ r.h r.late unmoved idle.timing) idle.at;
     }
 
 -- Clocks without HMOVE and without the object's strobe.
@@ -82,18 +73,8 @@ pub idle_phase :
     ((i : ℕ) → hits (writes i) (strobe_of o) ≡ false) →
     Idle o (state_at writes s n) p r → Idle o (state_at writes s (n + k)) p (after rest_next k r)
 idle_phase o writes s p r n k unmoved unstrobed idle =
-    over_clocks
-    (λ s r. Idle o s p r)
-    rest_next
-    (IdleWrite o)
-    (λ s w r calm. idle_step o s w p r calm.0 calm.1)
-    writes
-    s
-    r
-    n
-    k
-    (λ i l h. (unmoved i l h, unstrobed i))
-    idle
+    over_clocks (λ s r. Idle o s p r) rest_next (IdleWrite o) (λ s w r calm. idle_step o s w p r calm.0 calm.1) writes s r n k
+    (λ i l h. (unmoved i l h, unstrobed i)) idle
 
 -- Moving: the track, and the pulses so far.
 pub record Moving : Type 0 where
@@ -121,16 +102,7 @@ moving_step o s w p m undisturbed unstrobed moves =
           clock_track o s w ∙ undisturbed_track (motion_register_of o) w (track_of o s) undisturbed
           ∙ ap (track_next 0 Nothing) moves.on;
       at =
-          stepped
-          o
-          s
-          w
-          (pulsed_on 0 Nothing m.track)
-          p
-          m.pulses
-          unstrobed
-          (undisturbed_pulse (motion_register_of o) w (track_of o s) undisturbed ∙ ap (pulsed_on 0 Nothing) moves.on)
-          moves.at;
+          stepped o s w _ p m.pulses unstrobed (undisturbed_pulse _ w _ undisturbed ∙ ap (pulsed_on 0 Nothing) moves.on) moves.at;
     }
 
 -- Clocks without HMOVE, the object's motion register, HMCLR and the object's strobe.
@@ -143,15 +115,5 @@ pub moving_phase :
     ((i : ℕ) → hits (writes i) (strobe_of o) ≡ false) →
     OnTrack o (state_at writes s n) p m → OnTrack o (state_at writes s (n + k)) p (after moving_next k m)
 moving_phase o writes s p m n k undisturbed unstrobed moves =
-    over_clocks
-    (λ s m. OnTrack o s p m)
-    moving_next
-    (MovingWrite o)
-    (λ s w m calm. moving_step o s w p m calm.0 calm.1)
-    writes
-    s
-    m
-    n
-    k
-    (λ i l h. (undisturbed i l h, unstrobed i))
-    moves
+    over_clocks (λ s m. OnTrack o s p m) moving_next (MovingWrite o) (λ s w m calm. moving_step o s w p m calm.0 calm.1) writes s m n k
+    (λ i l h. (undisturbed i l h, unstrobed i)) moves

@@ -1,14 +1,14 @@
 -- Demand 3's premises, read off a line's records, as facts on the write of each clock.
 use mathlib.Core.Path.{◌≡◌, ◌∙◌, refl, sym, ap}
 use mathlib.Core.List.{List, [], ◌∷◌}
-use mathlib.Core.Bool.{Bool, true, false, cond, ◌&&◌, ◌||◌, not, true≢false}
+use mathlib.Core.Bool.{Bool, true, false, ◌&&◌, ◌||◌, not}
 use Prim.Native.Nat.{ℕ, ◌+◌, ◌<◌, ◌≤◌}
 use native.Mathlib.Omega.{arith}
-use borrow.Author.Tests.{eq-eqb, ne_eqb, eqb-true, lt-ltb, le-leb, leb-true}
+use borrow.Author.Tests.{eq-eqb, ne_eqb, leb-true}
 use lib.Dec.{eqb, leb}
-use Rattle.laws.proofs.Bools.{and_first, and_second, or_first, or_second, not_true}
+use Rattle.std.proofs.lemmas.Bool.Decides.{nat_tests}
+use Rattle.laws.proofs.Bools.{and_first, and_second, not_true}
 use Rattle.tia.specs.declared.write.Write.{Write}
-use Rattle.tia.specs.declared.write.Write.TheVariants.{Register}
 use Rattle.tia.specs.Write.{HMCLR, HMOVE, hits}
 use Rattle.tia.specs.WriteList.{TimedWrite, write_at}
 use Rattle.tia.specs.Movable.{Movable, P0, P1, M0, M1, BL, strobe_of, motion_register_of}
@@ -22,11 +22,9 @@ narrower :
     any_record wide rs ≡ false → any_record narrow rs ≡ false
 narrower wide narrow implies [] e = refl
 narrower wide narrow implies (r ∷ rs) e =
-    by_test (narrow r) refl (narrower wide narrow implies rs (or_second (wide r) (any_record wide rs) e))
-  where
-    by_test : (b : Bool) → narrow r ≡ b → any_record narrow rs ≡ false → (b || any_record narrow rs) ≡ false
-    by_test true t later = absurd (true≢false (sym (implies r t) ∙ or_first (wide r) (any_record wide rs) e))
-    by_test false t later = later
+    let here = implies r in
+    let later = narrower wide narrow implies rs in
+    grind (arith, nat_tests)
 
 -- A register that no record with clock n has is not written on clock n.
 abbrev writes_on : (n address : ℕ) → TimedWrite → Bool
@@ -36,16 +34,8 @@ not_written : (a n : ℕ) (rs : List TimedWrite) → any_record (writes_on n a) 
 unfolding write_at
 not_written a n [] e = refl
 not_written a n (r ∷ rs) e =
-    by_test
-    (eqb r.clock n)
-    (or_first (writes_on n a r) (any_record (writes_on n a) rs) e)
-    (not_written a n rs (or_second (writes_on n a r) (any_record (writes_on n a) rs) e))
-  where
-    by_test :
-        (b : Bool) → (b && eqb r.address a) ≡ false → hits (write_at rs n) a ≡ false →
-        hits (cond b (Register r.address r.value) (write_at rs n)) a ≡ false
-    by_test true here later = here
-    by_test false here later = later
+    let later = not_written a n rs in
+    grind (arith, nat_tests)
 
 -- The object's strobe is on no clock.
 pub strobe_never : (o : Movable) (rs : List TimedWrite) → strobe_unused o rs ≡ true → (n : ℕ) → hits (write_at rs n) (strobe_of o) ≡ false
@@ -65,20 +55,12 @@ pub hmove_lookup : (n least : ℕ) (rs : List TimedWrite) → Rising least rs �
 unfolding write_at hmove_clocks
 hmove_lookup n least [] rise = refl
 hmove_lookup n least (r ∷ rs) rise =
-    by_tests (eqb r.clock n) (eqb r.address HMOVE) refl refl (hmove_lookup n (r.clock + 1) rs rise.1.1.1)
+    let later = hmove_lookup n (r.clock + 1) rs rise.1.1.1 in
+    grind (arith, nat_tests, none_left)
   where
     none_left : r.clock ≡ n → hits (write_at rs n) HMOVE ≡ false
     none_left e =
         ap (λ (w : Write). hits w HMOVE) (writes_none n rs (rising_from (n + 1) (r.clock + 1) rs (omega (arith, e)) rise.1.1.1))
-
-    by_tests :
-        (here move : Bool) → eqb r.clock n ≡ here → eqb r.address HMOVE ≡ move →
-        hits (write_at rs n) HMOVE ≡ among n (hmove_clocks rs) →
-        hits (cond here (Register r.address r.value) (write_at rs n)) HMOVE ≡ among n (cond move (r.clock ∷ hmove_clocks rs) (hmove_clocks rs))
-    by_tests true true h m later = m ∙ sym (rw h)
-    by_tests true false h m later = m ∙ sym (sym later ∙ none_left (eqb-true r.clock n h))
-    by_tests false true h m later = later ∙ sym (rw h)
-    by_tests false false h m later = later
 
 pub unmoved_by : (rs : List TimedWrite) → Rising 0 rs → hmove_clocks rs ≡ [] → (n : ℕ) → hits (write_at rs n) HMOVE ≡ false
 unmoved_by rs rise none n = hmove_lookup n 0 rs rise ∙ ap (among n) none
@@ -93,14 +75,7 @@ motion_register BL = refl
 
 disturbing :
     (a c i : ℕ) → is_motion a ≡ true → c < i → i ≤ 75 → (r : TimedWrite) → writes_on i a r ≡ true → disturbs c r ≡ true
-disturbing a c i motion after up_to_lem r t =
-    rw (
-      eqb-true r.clock i (and_first (eqb r.clock i) _ t),
-      eqb-true r.address a (and_second (eqb r.clock i) _ t),
-      motion,
-      lt-ltb c i after,
-      le-leb i 75 up_to_lem,
-    )
+disturbing a c i motion after up_to_lem r t = grind (arith, nat_tests)
 
 motion_never :
     (a c i : ℕ) (rs : List TimedWrite) → is_motion a ≡ true → c < i → i ≤ 75 → any_record (disturbs c) rs ≡ false →

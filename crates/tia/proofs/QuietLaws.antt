@@ -5,11 +5,12 @@ use mathlib.Core.Bool.{Bool, beq, true, false, cond, ◌&&◌, and-false, true�
 use Prim.Native.Nat.{ℕ, zero, suc, ◌+◌, ◌%◌, ◌<◌, ◌≤◌}
 use native.Mathlib.Nat.{zero-add, add-suc}
 use native.Mathlib.Omega.{arith}
-use borrow.Author.Tests.{eqb-true, le-ltb}
+use borrow.Author.Tests.{le-ltb}
 use lib.Dec.{T, eqb}
+use Rattle.std.proofs.lemmas.Bool.Decides.{nat_tests}
 use Rattle.laws.specs.Bits.{bit}
 use Rattle.laws.specs.Steps.{after}
-use Rattle.laws.proofs.Bools.{and_first, and_second, is_true, holds_of}
+use Rattle.laws.proofs.Bools.{is_true, holds_of}
 use Rattle.laws.proofs.Split.{split}
 use Rattle.laws.proofs.Table.{every_below, below, same}
 use Rattle.tia.specs.declared.lit.Lit.{Lit}
@@ -60,11 +61,9 @@ unfolding is_swept after sweep_next timing_next
 all_swept = tt
 
 swept : (slot : ℕ) (late : Bool) → slot < 17 → is_swept slot late ≡ true
-swept slot late h = by_flag late (is_true _ (below 17 (λ slot. is_swept slot true && is_swept slot false) all_swept slot h))
-  where
-    by_flag : (late : Bool) → (is_swept slot true && is_swept slot false) ≡ true → is_swept slot late ≡ true
-    by_flag true t = and_first (is_swept slot true) (is_swept slot false) t
-    by_flag false t = and_second (is_swept slot true) (is_swept slot false) t
+swept slot late h =
+    let both = is_true _ (below 17 (λ slot. is_swept slot true && is_swept slot false) all_swept slot h) in
+    grind (arith, nat_tests)
 
 -- A visible clock pulses every object.
 visible_pulses :
@@ -79,12 +78,7 @@ record Sweeping (o : Movable) (s : State) (q : Sweep) : Type 0 where
   progress : Settled o s ⊎ (q.visible ≤ position_of o s)
 
 reached_below : (pulse : Bool) (p : ℕ) → p < 160 → reached pulse p < 160
-reached_below true p h = omega arith
-reached_below false p h = h
-
-one_more : (b : Bool) (n : ℕ) → cond b n (suc n) ≤ suc n
-one_more true n = omega arith
-one_more false n = omega arith
+reached_below pulse p h = grind (arith, nat_tests)
 
 moved_on :
     (o : Movable) (s : State) (q : Sweep) → s.timing ≡ q.timing → position_of o s < 160 → q.visible ≤ position_of o s →
@@ -105,7 +99,7 @@ moved_on o s q timing h progress = by_pulse (pulsed o s) refl
     by_pulse : (pulse : Bool) → pulsed o s ≡ pulse → Settled o (quiet_next s) ⊎ (cond shut q.visible (suc q.visible) ≤ position_of o (quiet_next s))
     by_pulse true e =
         ⊎_elim
-        (λ (l : p < 159). inr (rw (quiet_position o s, e) (omega (arith, one_more shut q.visible, progress))))
+        (λ (l : p < 159). inr (rw (quiet_position o s, e) (grind (arith, nat_tests))))
         (λ (l : 159 ≤ p). inl (settled_from_zero o s e (omega arith)))
         (split p 159)
     by_pulse false e = inr (rw (quiet_position o s, e) (still e shut refl))
@@ -133,13 +127,7 @@ sweep o s q sweeping =
     (λ s q. Sweeping o s q)
     sweep_next
     (λ w. w ≡ Nothing)
-    (sweep_over o)
-    (λ i. Nothing)
-    s
-    q
-    0
-    228
-    (λ i l h. refl)
+    (sweep_over o) (λ i. Nothing) s q 0 228 (λ i l h. refl)
     (rw (state_first (λ i. Nothing) s) sweeping)
 
 -- A line without writes ends every motion and settles every object.
@@ -153,12 +141,12 @@ pub quiet_settles :
 unfolding is_swept
 quiet_settles o s start slot below_160 =
     record {
-      start = ap (λ (t : Timing). t.h) end.timing ∙ eqb-true line.timing.h 0 (and_first (eqb line.timing.h 0) _ all);
-      rest = ap (λ (t : Timing). t.slot) end.timing ∙ eqb-true line.timing.slot 16 (and_first (eqb line.timing.slot 16) _ from_slot);
+      start = ap (λ (t : Timing). t.h) end.timing ∙ ends.0;
+      rest = ap (λ (t : Timing). t.slot) end.timing ∙ ends.1.0;
       settled =
           ⊎_elim
           (λ (settled : Settled o (quiet_at s 228)). settled)
-          (λ (far : line.visible ≤ position_of o (quiet_at s 228)). absurd (omega (arith, far, seen, end.below_160)))
+          (λ (far : line.visible ≤ position_of o (quiet_at s 228)). absurd (omega (arith, far, ends.1.1, end.below_160)))
           end.progress;
     }
   where
@@ -168,22 +156,15 @@ quiet_settles o s start slot below_160 =
     line : Sweep
     line = line_from t.slot t.late
 
-    all : (eqb line.timing.h 0 && (eqb line.timing.slot 16 && eqb line.visible 160)) ≡ true
-    all = swept t.slot t.late slot
-
-    from_slot : (eqb line.timing.slot 16 && eqb line.visible 160) ≡ true
-    from_slot = and_second (eqb line.timing.h 0) _ all
-
-    seen : line.visible ≡ 160
-    seen = eqb-true line.visible 160 (and_second (eqb line.timing.slot 16) _ from_slot)
-
-    rebuilt : (h slot : ℕ) (late : Bool) → h ≡ 0 → ◌≡◌ {A = Timing} (record { h = h; slot = slot; late = late }) (record { h = 0; slot = slot; late = late })
-    rebuilt h slot late e = rw e
+    ends : (line.timing.h ≡ 0) × ((line.timing.slot ≡ 16) × (line.visible ≡ 160))
+    ends =
+        let all = swept t.slot t.late slot in
+        (grind (arith, nat_tests), (grind (arith, nat_tests), grind (arith, nat_tests)))
 
     end : Sweeping o (quiet_at s 228) line
     end =
         sweep o s (record { timing = record { h = 0; slot = t.slot; late = t.late }; visible = 0 })
-        (record { timing = rebuilt t.h t.slot t.late start; below_160 = below_160; progress = inr (omega arith) })
+        (record { timing = λ i. record { h = start i; slot = t.slot; late = t.late }; below_160 = below_160; progress = inr (omega arith) })
 
 -- It keeps the registers, and a settled object stays settled.
 pub quiet_keeps : (s : State) (n : ℕ) → (quiet_at s n).registers ≡ s.registers

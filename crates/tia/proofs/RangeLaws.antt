@@ -1,10 +1,11 @@
 -- Every part of a state stays in its range: registers, colours, objects, drawings and timing.
 use mathlib.Core.Path.{◌≡◌, refl}
 use mathlib.Core.Bool.{Bool, true, false, cond, ◌&&◌}
-use Prim.Native.Nat.{ℕ, ◌+◌, ◌%◌, ◌/◌, ◌≤◌, zero-le}
+use Prim.Native.Nat.{ℕ, ◌+◌, ◌%◌, ◌≤◌}
 use native.Mathlib.Omega.{arith}
-use borrow.Author.Tests.{le-leb, leb-true, leb-false, ltb-true}
-use lib.Dec.{eqb, ltb, leb}
+use borrow.Author.Tests.{le-leb}
+use lib.Dec.{eqb, leb}
+use Rattle.std.proofs.lemmas.Bool.Decides.{nat_tests}
 use Rattle.laws.proofs.Bools.{and_both, and_first, and_second, cond_passes}
 use Rattle.tia.specs.declared.colours.Colours.{Colours}
 use Rattle.tia.specs.declared.drawing.Drawing.{Drawing}
@@ -18,11 +19,11 @@ use Rattle.tia.specs.declared.state.Objects.{Objects}
 use Rattle.tia.specs.declared.timing.Tick.{Tick}
 use Rattle.tia.specs.declared.timing.Timing.{Timing}
 use Rattle.tia.specs.declared.write.Write.{Write}
-use Rattle.tia.specs.Write.{ByteWritten, NUSIZ0, NUSIZ1, COLUP0, COLUP1, COLUPF, COLUBK, CTRLPF, REFP0, REFP1}
-use Rattle.tia.specs.Write.{PF0, PF1, PF2, GRP0, GRP1, HMBL, HMM0, HMM1, HMP0, HMP1, RESBL}
-use Rattle.tia.specs.Write.{RESM0, RESM1, RESP0, RESP1, VDELP0, VDELP1, HMOVE, HMCLR, hits, byte_of}
-use Rattle.tia.specs.Registers.{upper, nusiz_after, graphic_after, playfield_after, registers_after, colours_after}
-use Rattle.tia.specs.Drawing.{no_drawing, drawing_age, next_pixel, shown_again, gone_on, next_drawing}
+use Rattle.tia.specs.Write.{ByteWritten}
+use Rattle.tia.specs.Write.{HMBL, HMM0, HMM1, HMP0, HMP1, RESBL}
+use Rattle.tia.specs.Write.{RESM0, RESM1, RESP0, RESP1, hits}
+use Rattle.tia.specs.Registers.{nusiz_after, graphic_after, playfield_after, registers_after, colours_after}
+use Rattle.tia.specs.Drawing.{gone_on, next_drawing}
 use Rattle.tia.specs.State.{timing_in_range, object_in_range, size_in_range, drawing_in_range, player_in_range, objects_in_range, nusiz_in_range}
 use Rattle.tia.specs.State.{playfield_in_range, graphic_in_range, registers_in_range, colours_in_range}
 use Rattle.tia.specs.Timing.{timing_written, comparing, timing_after}
@@ -36,84 +37,36 @@ chosen limit b m n p q = cond_passes (λ n. leb n limit) b (le-leb m limit p) q
 
 -- NUSIZ, a graphic, the playfield, the colours, and so all registers.
 nusiz_stays : (address : ℕ) (w : Write) (n : Nusiz) → nusiz_in_range n ≡ true → nusiz_in_range (nusiz_after address w n) ≡ true
-nusiz_stays address w n ok =
-    and_both
-    (chosen 7 (hits w address) (byte_of w % 8) n.copies (omega arith) (and_first (leb n.copies 7) (leb n.width 3) ok))
-    (chosen 3 (hits w address) (byte_of w / 16 % 4) n.width (omega arith) (and_second (leb n.copies 7) (leb n.width 3) ok))
+nusiz_stays address w n ok = grind (arith, nat_tests)
 
 graphic_stays :
     (reflect own other delay : ℕ) (w : Write) (g : Graphic) → ByteWritten w → graphic_in_range g ≡ true →
     graphic_in_range (graphic_after reflect own other delay w g) ≡ true
 unfolding graphic_in_range
-graphic_stays reflect own other delay w g byte ok =
-    let new = and_first (leb g.new 255) (leb g.old 255) ok in
-    let old = and_second (leb g.new 255) (leb g.old 255) ok in
-    and_both
-    (chosen 255 (hits w own) (byte_of w) g.new byte new)
-    (chosen 255 (hits w other) g.new g.old (leb-true g.new 255 new) old)
+graphic_stays reflect own other delay w g byte ok = grind (arith, nat_tests)
 
 playfield_stays :
     (w : Write) (p : Playfield) → ByteWritten w → playfield_in_range p ≡ true →
     playfield_in_range (playfield_after w p) ≡ true
 unfolding playfield_in_range
-playfield_stays w p byte ok =
-    let rest = and_second (leb p.ctrlpf 255) (leb p.pf0 15 && (leb p.pf1 255 && leb p.pf2 255)) ok in
-    let last = and_second (leb p.pf0 15) (leb p.pf1 255 && leb p.pf2 255) rest in
-    and_both
-    (chosen 255 (hits w CTRLPF) (byte_of w) p.ctrlpf byte (and_first (leb p.ctrlpf 255) _ ok))
-    (and_both
-    (chosen 15 (hits w PF0) (upper (byte_of w)) p.pf0 (omega arith) (and_first (leb p.pf0 15) _ rest))
-    (and_both
-    (chosen 255 (hits w PF1) (byte_of w) p.pf1 byte (and_first (leb p.pf1 255) _ last))
-    (chosen 255 (hits w PF2) (byte_of w) p.pf2 byte (and_second (leb p.pf1 255) _ last))))
+playfield_stays w p byte ok = grind (arith, nat_tests)
 
 pub colours_stay : (w : Write) (c : Colours) → ByteWritten w → colours_in_range c ≡ true → colours_in_range (colours_after w c) ≡ true
 unfolding colours_in_range colours_after
-colours_stay w c byte ok =
-    let from1 = and_second (leb c.colup0 255) _ ok in
-    let last = and_second (leb c.colup1 255) _ from1 in
-    and_both
-    (chosen 255 (hits w COLUP0) (byte_of w) c.colup0 byte (and_first (leb c.colup0 255) _ ok))
-    (and_both
-    (chosen 255 (hits w COLUP1) (byte_of w) c.colup1 byte (and_first (leb c.colup1 255) _ from1))
-    (and_both
-    (chosen 255 (hits w COLUPF) (byte_of w) c.colupf byte (and_first (leb c.colupf 255) _ last))
-    (chosen 255 (hits w COLUBK) (byte_of w) c.colubk byte (and_second (leb c.colupf 255) _ last))))
+colours_stay w c byte ok = grind (arith, nat_tests)
 
 pub registers_stay :
     (w : Write) (r : Registers) → ByteWritten w → registers_in_range r ≡ true →
     registers_in_range (registers_after w r) ≡ true
 unfolding registers_in_range registers_after
-registers_stay w r byte ok =
-    let from1 = and_second (nusiz_in_range r.nusiz0) _ ok in
-    let fromPlayfield = and_second (nusiz_in_range r.nusiz1) _ from1 in
-    let graphics = and_second (playfield_in_range r.playfield) _ fromPlayfield in
-    and_both
-    (nusiz_stays NUSIZ0 w r.nusiz0 (and_first (nusiz_in_range r.nusiz0) _ ok))
-    (and_both
-    (nusiz_stays NUSIZ1 w r.nusiz1 (and_first (nusiz_in_range r.nusiz1) _ from1))
-    (and_both
-    (playfield_stays w r.playfield byte (and_first (playfield_in_range r.playfield) _ fromPlayfield))
-    (and_both
-    (graphic_stays REFP0 GRP0 GRP1 VDELP0 w r.graphic0 byte (and_first (graphic_in_range r.graphic0) _ graphics))
-    (graphic_stays REFP1 GRP1 GRP0 VDELP1 w r.graphic1 byte (and_second (graphic_in_range r.graphic0) _ graphics)))))
+registers_stay w r byte ok = grind (arith, nat_tests, nusiz_stays, playfield_stays, graphic_stays)
 
 -- An object's position, age and motion value.
 older_up_to : (age : ℕ) → older age ≤ 64
-older_up_to age = leb-true (older age) 64 (by_test (ltb age 64) refl)
-  where
-    by_test : (b : Bool) → ltb age 64 ≡ b → leb (cond b (age + 1) 64) 64 ≡ true
-    by_test true e = le-leb (age + 1) 64 (omega (arith, ltb-true age 64 e))
-    by_test false e = refl
+older_up_to age = grind (arith, nat_tests)
 
 written_stays : (hm : ℕ) (w : Write) (o : Object) → object_in_range o ≡ true → object_in_range (object_written hm w o) ≡ true
-written_stays hm w o ok =
-    let rest = and_second (leb o.position 159) (leb o.age 64 && leb o.motion 15) ok in
-    and_both
-    (and_first (leb o.position 159) _ ok)
-    (and_both
-    (and_first (leb o.age 64) _ rest)
-    (chosen 15 (hits w hm) (upper (byte_of w)) _ (omega arith) (chosen 15 (hits w HMCLR) 0 o.motion (omega arith) (and_second (leb o.age 64) _ rest))))
+written_stays hm w o ok = grind (arith, nat_tests)
 
 pulsed_stays : (pulse start : Bool) (o : Object) → object_in_range o ≡ true → object_in_range (pulsed_if pulse start o) ≡ true
 pulsed_stays pulse start o ok =
@@ -124,10 +77,7 @@ pulsed_stays pulse start o ok =
     (and_both (chosen 64 start 0 (cond pulse (older o.age) o.age) (omega arith) aged) (and_second (leb o.age 64) _ rest))
 
 strobed_stays : (strobe : Bool) (o : Object) → object_in_range o ≡ true → object_in_range (strobed_if strobe o) ≡ true
-strobed_stays strobe o ok =
-    and_both
-    (chosen 159 strobe 0 o.position (omega arith) (and_first (leb o.position 159) _ ok))
-    (and_second (leb o.position 159) _ ok)
+strobed_stays strobe o ok = grind (arith, nat_tests)
 
 moved_stays :
     (k : Tick) (strobe : Bool) (copies : ℕ) (o : Object) → object_in_range o ≡ true →
@@ -158,43 +108,20 @@ size_taken : (copies : ℕ) → size_in_range (size_of copies) ≡ true
 size_taken copies = of_sizes (λ size. size_in_range size ≡ true) copies refl refl refl
 
 size_up_to : (copies : ℕ) → size_of copies ≤ 4
-size_up_to copies = leb-true (size_of copies) 4 (of_sizes (λ size. leb size 4 ≡ true) copies refl refl refl)
+unfolding size_of
+size_up_to copies = grind (arith, nat_tests)
 
 -- A drawing: the next pixel is at most 8, and a pixel is shown again only as long as its clocks are below a size.
 gone_on_stays : (size : ℕ) (d : Drawing) → size ≤ 4 → drawing_in_range d ≡ true → drawing_in_range (gone_on size d) ≡ true
-gone_on_stays size d few ok = by_tests (ltb d.pixel 8) refl (leb size d.shown) refl
-  where
-    by_tests :
-        (drawn : Bool) → ltb d.pixel 8 ≡ drawn → (enough : Bool) → leb size d.shown ≡ enough →
-        drawing_in_range (cond drawn (cond enough (next_pixel d) (shown_again d)) d) ≡ true
-    by_tests false e enough f = ok
-    by_tests true e true f =
-        cond_passes
-        drawing_in_range
-        (eqb d.pixel 7)
-        {x = no_drawing}
-        {y = record { pixel = d.pixel + 1; shown = 1 }}
-        refl
-        (and_both (le-leb (d.pixel + 1) 8 (omega (arith, ltb-true d.pixel 8 e))) refl)
-    by_tests true e false f =
-        and_both
-        (and_first (leb d.pixel 8) _ ok)
-        (le-leb (d.shown + 1) 4 (omega (arith, few, leb-false size d.shown f)))
+gone_on_stays size d few ok = grind (arith, nat_tests)
 
 drawing_stays :
     (pulse start : Bool) (age held size : ℕ) (d : Drawing) → size ≤ 4 → drawing_in_range d ≡ true →
     drawing_in_range (cond pulse (next_drawing start age held size d) d) ≡ true
 unfolding next_drawing
 drawing_stays pulse start age held size d few ok =
-    cond_passes
-    drawing_in_range
-    pulse
-    (cond_passes
-    drawing_in_range
-    start
-    refl
-    (cond_passes drawing_in_range (eqb age (drawing_age held)) refl (gone_on_stays size d few ok)))
-    ok
+    let on = gone_on_stays size d few ok in
+    grind (arith, nat_tests)
 
 player_stays :
     (k : Tick) (strobe hm copies : ℕ) (w : Write) (p : Player) → player_in_range p ≡ true →
@@ -220,12 +147,8 @@ player_stays k strobe hm copies w p ok =
 ball_stays : (k : Tick) (w : Write) (o : Object) → object_in_range o ≡ true → object_in_range (ball_after k w o) ≡ true
 unfolding ball_after
 ball_stays k w o ok =
-    let ball = (object_after k RESBL HMBL 0 w o).object in
     let in-range = object_stays k RESBL HMBL 0 w o ok in
-    let rest = and_second (leb ball.position 159) (leb ball.age 64 && leb ball.motion 15) in-range in
-    and_both
-    (and_first (leb ball.position 159) _ in-range)
-    (and_both (chosen 64 (hits w RESBL) 0 ball.age (omega arith) (and_first (leb ball.age 64) _ rest)) (and_second (leb ball.age 64) _ rest))
+    grind (arith, nat_tests)
 
 pub objects_stay :
     (k : Tick) (r : Registers) (w : Write) (os : Objects) → objects_in_range os ≡ true →
@@ -246,25 +169,7 @@ objects_stay k r w os ok =
     (ball_stays k w os.bl (and_second (object_in_range os.m1) _ last)))))
 
 -- h and the slot.
-zero_or : (b : Bool) (n limit : ℕ) → n ≤ limit → cond b 0 n ≤ limit
-zero_or true n limit h = zero-le
-zero_or false n limit h = h
-
-pub slot_written : (w : Write) (t : Timing) → t.slot ≤ 16 → (timing_written w t).slot ≤ 16
-slot_written w t h = zero_or (hits w HMOVE) t.slot 16 h
-
-slot_stays : (w : Write) (t : Timing) → t.slot ≤ 16 → (timing_after (comparing w t) t).slot ≤ 16
-slot_stays w t h = by_test (comparing w t) refl
-  where
-    by_test : (b : Bool) → comparing w t ≡ b → cond b (t.slot + 1) t.slot ≤ 16
-    by_test true e = omega (arith, ltb-true t.slot 16 (and_first (ltb t.slot 16) _ e))
-    by_test false e = h
-
 pub timing_stays :
     (w : Write) (t : Timing) → timing_in_range t ≡ true →
     timing_in_range (timing_after (comparing w (timing_written w t)) (timing_written w t)) ≡ true
-timing_stays w t ok =
-    let slot = leb-true t.slot 16 (and_second (leb t.h 227) _ ok) in
-    and_both
-    (le-leb ((t.h + 1) % 228) 227 (omega arith))
-    (le-leb (timing_after (comparing w (timing_written w t)) (timing_written w t)).slot 16 (slot_stays w (timing_written w t) (slot_written w t slot)))
+timing_stays w t ok = grind (arith, nat_tests)

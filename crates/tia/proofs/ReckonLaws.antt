@@ -2,11 +2,12 @@
 use mathlib.Core.Path.{◌≡◌, ◌∙◌, refl, sym, ap}
 use mathlib.Core.Logic.{⊎_elim}
 use mathlib.Core.List.{List, [], ◌∷◌}
-use mathlib.Core.Bool.{Bool, true, false, cond}
-use Prim.Native.Nat.{ℕ, zero, suc, ◌+◌, ◌<◌, ◌≤◌, zero-le}
+use mathlib.Core.Bool.{true, false, cond}
+use Prim.Native.Nat.{ℕ, zero, suc, ◌+◌, ◌<◌, ◌≤◌}
 use native.Mathlib.Nat.{add-zero, add-suc, suc-add}
 use native.Mathlib.Omega.{arith}
 use lib.IntN.{◌+ℤ◌}
+use Rattle.std.proofs.lemmas.Bool.Decides.{nat_tests}
 use Rattle.laws.proofs.Split.{split}
 use Rattle.tia.specs.declared.state.State.{State}
 use Rattle.tia.specs.declared.write.Write.{Write}
@@ -22,18 +23,18 @@ use Rattle.tia.proofs.RisingLaws.{Rising, rising_from, writes_later, writes_here
 use Rattle.tia.proofs.TrackLaws.{Track, track_next, clock_track}
 
 -- The reckoning over a clock's write, over the clocks before clock n, and over so many clocks from one on.
-unfoldable pub reckon_write : (motionRegister : ℕ) → Write → Reckoning → Reckoning
+unfoldable pub reckon_write : (motion_register : ℕ) → Write → Reckoning → Reckoning
 reckon_write hm w k =
     record {
       half = cond (hits w hm) (upper (byte_of w)) (cond (hits w HMCLR) 0 k.half);
       sum = cond (hits w HMOVE) (k.sum +ℤ signed k.half) k.sum;
     }
 
-unfoldable pub reckon_at : (motionRegister : ℕ) → (ℕ → Write) → Reckoning → ℕ → Reckoning
+unfoldable pub reckon_at : (motion_register : ℕ) → (ℕ → Write) → Reckoning → ℕ → Reckoning
 reckon_at hm writes k zero = k
 reckon_at hm writes k (suc n) = reckon_write hm (writes n) (reckon_at hm writes k n)
 
-unfoldable reckon_from : (motionRegister : ℕ) → (ℕ → Write) → (clock count : ℕ) → Reckoning → Reckoning
+unfoldable reckon_from : (motion_register : ℕ) → (ℕ → Write) → (clock count : ℕ) → Reckoning → Reckoning
 reckon_from hm writes n zero k = k
 reckon_from hm writes n (suc count) k = reckon_from hm writes (suc n) count (reckon_write hm (writes n) k)
 
@@ -105,16 +106,12 @@ half_is_motion o writes s k e (suc n) =
     ap (λ (t : Track). t.motion) (clock_track o (state_at writes s n) (writes n)) ∙ rw (half_is_motion o writes s k e n)
 
 -- .. at most 15, ..
-either_half : (hit clear : Bool) (v m : ℕ) → m ≤ 15 → cond hit (upper v) (cond clear 0 m) ≤ 15
-either_half true clear v m h = omega arith
-either_half false true v m h = zero-le
-either_half false false v m h = h
-
 pub half_below : (hm : ℕ) (writes : ℕ → Write) (k : Reckoning) → k.half ≤ 15 → (n : ℕ) → (reckon_at hm writes k n).half ≤ 15
 unfolding reckon_at reckon_write
 half_below hm writes k h zero = h
 half_below hm writes k h (suc n) =
-    either_half (hits (writes n) hm) (hits (writes n) HMCLR) (byte_of (writes n)) (reckon_at hm writes k n).half (half_below hm writes k h n)
+    let half = half_below hm writes k h n in
+    grind (arith, nat_tests)
 
 -- .. and the sum changes with an HMOVE alone.
 pub sum_stays :

@@ -1,16 +1,15 @@
 -- A list that passed its check: its clocks rise, and the write on a clock is found in what is left of the list.
 use mathlib.Core.Path.{◌≡◌, ◌∙◌, refl}
 use mathlib.Core.List.{List, [], ◌∷◌}
-use mathlib.Core.Bool.{Bool, true, false, cond, ◌||◌, not}
+use mathlib.Core.Bool.{true}
 use Prim.Native.Nat.{ℕ, suc, ◌+◌, ◌%◌, ◌≤◌}
 use native.Mathlib.Omega.{arith}
-use borrow.Author.Tests.{eq-eqb, ne_eqb, eqb-true, eqb-false, ltb-false}
-use lib.Dec.{eqb, ltb}
+use borrow.Author.Tests.{eq-eqb, ne_eqb}
 use lib.ListN.{length}
+use Rattle.std.proofs.lemmas.Bool.Decides.{nat_tests}
 use Rattle.tia.specs.declared.write.Write.TheVariants.{Nothing, Register}
 use Rattle.tia.specs.Write.{known}
-use Rattle.laws.specs.Numbers.{for_list_length}
-use Rattle.tia.specs.WriteList.{TimedWrite, records_of, record_fault, first_fault, fault_at, list_fault, write_at}
+use Rattle.tia.specs.WriteList.{TimedWrite, records_of, record_fault, first_fault, list_fault, write_at}
 
 -- Clocks from the least on, strictly rising and below 228, and known registers.
 abbrev pub Rising : ℕ → List TimedWrite → Type 0
@@ -29,34 +28,16 @@ pub record Faultless (least clock address : ℕ) : Type 0 where
 
 pub faultless : (least clock address : ℕ) → record_fault least clock address ≡ 0 → Faultless least clock address
 unfolding record_fault
-faultless least clock address = by_tests (ltb 227 clock) (ltb clock least) (known address) refl refl refl
-  where
-    by_tests :
-        (over below kn : Bool) → ltb 227 clock ≡ over → ltb clock least ≡ below → known address ≡ kn →
-        ◌≡◌ {A = ℕ} (cond over 5 (cond below 6 (cond (not kn) 7 0))) 0 →
-        Faultless least clock address
-    by_tests true below kn o b k e = absurd (omega (arith, e))
-    by_tests false true kn o b k e = absurd (omega (arith, e))
-    by_tests false false false o b k e = absurd (omega (arith, e))
-    by_tests false false true o b k e =
-        record { above = omega (arith, ltb-false clock least b); within = omega (arith, ltb-false 227 clock o); listed = k }
+faultless least clock address e =
+    record { above = grind (arith, nat_tests); within = grind (arith, nat_tests); listed = grind (arith, nat_tests) }
 
 -- A list without fault rises.
 pub rising_by : (index least : ℕ) (rs : List TimedWrite) → (first_fault index least rs).number ≡ 0 → Rising least rs
 unfolding first_fault
 rising_by index least [] e = tt
 rising_by index least (r ∷ rs) e =
-    by_test (eqb (record_fault least r.clock r.address) 0) refl e (rising_by (suc index) (r.clock + 1) rs)
-  where
-    by_test :
-        (b : Bool) → eqb (record_fault least r.clock r.address) 0 ≡ b →
-        (cond b (first_fault (suc index) (r.clock + 1) rs) (fault_at (record_fault least r.clock r.address) index)).number ≡ 0 →
-        ((first_fault (suc index) (r.clock + 1) rs).number ≡ 0 → Rising (r.clock + 1) rs) →
-        Rising least (r ∷ rs)
-    by_test true t e later =
-        let f = faultless least r.clock r.address (eqb-true (record_fault least r.clock r.address) 0 t) in
-        (f.above, (f.within, (f.listed, later e)))
-    by_test false t e later = absurd (eqb-false (record_fault least r.clock r.address) 0 t e)
+    let here = faultless least r.clock r.address (grind (arith, nat_tests)) in
+    (here.above, (here.within, (here.listed, rising_by (suc index) (r.clock + 1) rs (grind (arith, nat_tests)))))
 
 -- What the check of a whole list shows.
 pub record Sound (ws : List ℕ) : Type 0 where
@@ -66,20 +47,12 @@ pub record Sound (ws : List ℕ) : Type 0 where
 
 pub sound_by : (ws : List ℕ) → (list_fault ws).number ≡ 0 → Sound ws
 unfolding list_fault
-sound_by ws = by_tests (eqb (length ws % 3) 0) (ltb 684 (length ws)) refl refl
-  where
-    by_tests :
-        (whole over : Bool) → eqb (length ws % 3) 0 ≡ whole → ltb 684 (length ws) ≡ over →
-        (cond (not whole || over) (fault_at for_list_length 0) (first_fault 0 0 (records_of ws))).number ≡ 0 →
-        Sound ws
-    by_tests false over w o e = absurd (omega (arith, e))
-    by_tests true true w o e = absurd (omega (arith, e))
-    by_tests true false w o e =
-        record {
-          whole = eqb-true (length ws % 3) 0 w;
-          short = ltb-false 684 (length ws) o;
-          rises = rising_by 0 0 (records_of ws) e;
-        }
+sound_by ws e =
+    record {
+      whole = grind (arith, nat_tests);
+      short = grind (arith, nat_tests);
+      rises = rising_by 0 0 (records_of ws) (grind (arith, nat_tests));
+    }
 
 -- Before the list's first clock nothing is written; on it, its record; after it, what the rest of the list has.
 pub writes_later : (r : TimedWrite) (rs : List TimedWrite) (n : ℕ) → (r.clock ≡ n → ⊥) → write_at (r ∷ rs) n ≡ write_at rs n

@@ -1,21 +1,21 @@
 -- A line of a run for one object: its position turned by the line's signed motion value, and its motion value as reckoned.
 use mathlib.Core.Path.{◌≡◌, ◌∙◌, refl, sym, ap}
 use mathlib.Core.List.{List, [], ◌∷◌}
-use mathlib.Core.Bool.{Bool, true, false, cond, ◌&&◌, true≢false}
+use mathlib.Core.Bool.{Bool, true, false, cond, true≢false}
 use Prim.Native.Nat.{ℕ, zero, suc, ◌+◌, ◌-◌, ◌%◌, ◌^◌, ◌<◌, ◌≤◌, zero-le}
 use native.Mathlib.Nat.{zero-add}
 use native.Mathlib.Omega.{arith}
-use borrow.Author.Tests.{leb-true, eqb-true}
-use lib.Dec.{eqb, ltb, leb}
+use borrow.Author.Tests.{eqb-true}
+use lib.Dec.{eqb, ltb}
 use lib.IntN.{pos, ◌+ℤ◌}
 use lib.ListN.{length}
+use Rattle.std.proofs.lemmas.Bool.Decides.{nat_tests}
 use Rattle.laws.proofs.Bools.{and_first, and_second}
 use Rattle.tia.specs.declared.state.Objects.{Objects}
 use Rattle.tia.specs.declared.state.State.{State}
 use Rattle.tia.specs.declared.timing.Timing.{Timing}
-use Rattle.tia.specs.declared.write.Write.TheVariants.{Register}
-use Rattle.tia.specs.Write.{HMOVE, ByteWritten, hits, byte_of}
-use Rattle.tia.specs.State.{is_byte, timing_in_range, object_in_range, player_in_range, objects_in_range, in_range, any_live, bad_state}
+use Rattle.tia.specs.Write.{HMOVE, ByteWritten, hits}
+use Rattle.tia.specs.State.{timing_in_range, object_in_range, player_in_range, objects_in_range, in_range, any_live, bad_state}
 use Rattle.tia.specs.Signed.{signed, mod160}
 use Rattle.tia.specs.WriteList.{TimedWrite, records_of, write_at}
 use Rattle.tia.specs.Line.{line_of}
@@ -28,7 +28,6 @@ use Rattle.tia.proofs.GoodLaws.{none_live, good_stays}
 use Rattle.tia.proofs.LineLaws.{state_at, writes_of, line_state}
 use Rattle.tia.proofs.RisingLaws.{Rising}
 use Rattle.tia.proofs.AcceptLaws.{accepted, refused_state}
-use Rattle.tia.proofs.TrackLaws.{resting}
 use Rattle.tia.proofs.MotionLaws.{end_slot}
 use Rattle.tia.proofs.PhaseLaws.{Idle}
 use Rattle.tia.proofs.MoveLaws.{at_start, MovedAt, moved_line, unmoved_line}
@@ -47,14 +46,8 @@ byte_written [] all n = zero-le
 byte_written (c ∷ []) all n = zero-le
 byte_written (c ∷ a ∷ []) all n = zero-le
 byte_written (c ∷ a ∷ v ∷ ws) all n =
-    by_test (eqb c n) (leb-true v 255 (and_first (is_byte v) (all_bytes ws) from_v)) (byte_written ws (and_second (is_byte v) (all_bytes ws) from_v) n)
-  where
-    from_v : (is_byte v && all_bytes ws) ≡ true
-    from_v = and_second (is_byte a) _ (and_second (is_byte c) _ all)
-
-    by_test : (b : Bool) → v ≤ 255 → byte_of (writes_of ws n) ≤ 255 → byte_of (cond b (Register a v) (writes_of ws n)) ≤ 255
-    by_test true here later = here
-    by_test false here later = later
+    let later = byte_written ws (grind (arith, nat_tests)) n in
+    grind (arith, nat_tests)
 
 -- .. so that every clock and every line keeps a good state good.
 pub good_at : (ws : List ℕ) (s : State) → all_bytes ws ≡ true → bad_state s ≡ false → (n : ℕ) → bad_state (state_at (writes_of ws) s n) ≡ false
@@ -104,13 +97,13 @@ good_body o s good =
 
 pub position_below : (o : Movable) (s : State) → bad_state s ≡ false → position_of o s < 160
 position_below o s good =
-    let p = position_of o s in
-    omega (arith, leb-true p 159 (and_first (leb p 159) _ (good_body o s good)))
+    let body = good_body o s good in
+    grind (arith, nat_tests)
 
 pub motion_below : (o : Movable) (s : State) → bad_state s ≡ false → motion_of o s ≤ 15
 motion_below o s good =
-    let body = body_of o s.objects in
-    leb-true body.motion 15 (and_second (leb body.age 64) _ (and_second (leb body.position 159) _ (good_body o s good)))
+    let body = good_body o s good in
+    grind (arith, nat_tests)
 
 still_object : (o : Movable) (s : State) → any_live s.objects ≡ false → (body_of o s.objects).live ≡ false
 still_object P0 s none = (none_live s.objects none).p0
@@ -128,13 +121,10 @@ pub record AtRest (s : State) : Type 0 where
 pub idle_start : (o : Movable) (s : State) → AtRest s → Idle o s (position_of o s) (at_start s.timing.late)
 idle_start o s a =
     record {
-      timing = rebuilt s.timing.h s.timing.slot s.timing.late a.start a.rest;
+      timing = λ i. record { h = a.start i; slot = a.rest i; late = s.timing.late };
       still = still_object o s (good_rest s a.good a.rest);
       at = not_turned (position_below o s a.good);
     }
-  where
-    rebuilt : (h slot : ℕ) (late : Bool) → h ≡ 0 → slot ≡ 16 → ◌≡◌ {A = Timing} (record { h = h; slot = slot; late = late }) (resting 0 late)
-    rebuilt h slot late e f = rw (e, f)
 
 -- An object at a line start of a run, turned by the sum so far.
 pub record InRun (o : Movable) (p : ℕ) (s : State) (k : Reckoning) : Type 0 where
@@ -260,12 +250,7 @@ run_runs line meets o p (c ∷ cs) s k run ok =
         rest
         (reckon_line (motion_register_of o) k rs)
         (rw a.state
-        (line_runs
-        o
-        p
-        s
-        c.writes
-        k
+        (line_runs o p s c.writes k
         (slice_bytes c.writes c.writes_slice)
         a.rising
         (and_first (moves_within (hmove_clocks rs) rs) _ ok)

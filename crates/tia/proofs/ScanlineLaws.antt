@@ -1,14 +1,15 @@
--- A line under way, clock by clock: its state, the cursor into its list, and the columns of both buffers filled so far.
+-- A line under way, clock by clock: its state, what is left of its list, and the columns of both buffers filled so far.
 use mathlib.Core.Path.{◌≡◌, ◌∙◌, refl, sym, ap}
 use mathlib.Core.Bool.{true}
 use mathlib.Core.List.{List}
 use mathlib.Core.Logic.{⊎_elim}
-use Prim.Native.Nat.{ℕ, suc, ◌+◌, ◌-◌, ◌%◌, ◌≤◌, ◌<◌}
+use Prim.Native.Nat.{ℕ, suc, ◌+◌, ◌-◌, ◌≤◌, ◌<◌}
 use native.Mathlib.Numerals.{add-one}
 use native.Mathlib.Omega.{arith}
-use borrow.Author.Tests.{lt-ltb, le-ltb}
-use lib.ListN.{length, get_or, take, drop, length-set}
+use borrow.Author.Tests.{le-ltb}
+use lib.ListN.{length, get_or, take, length-set}
 use lib.Seq.{take_all, take-suc, take-suc-set}
+use Rattle.std.proofs.lemmas.Bool.Decides.{nat_tests}
 use Rattle.laws.proofs.Split.{split}
 use Rattle.tia.specs.declared.clock.Clocked.{Clocked}
 use Rattle.tia.specs.declared.state.State.{State}
@@ -17,7 +18,7 @@ use Rattle.tia.specs.State.{timing_in_range}
 use Rattle.tia.specs.Clock.{clock_of}
 use Rattle.tia.specs.WriteList.{records_of}
 use Rattle.tia.specs.Line.{line_of, picture, colour_picture, Buffers, buffers, rooms_of, pictures}
-use Rattle.tia.specs.Cursor.{due_at, passed_by, stored}
+use Rattle.tia.specs.Cursor.{due_at, left_by, stored}
 use Rattle.tia.specs.Answers.{line_fault}
 use Rattle.tia.proofs.StateLaws.{good_in_time}
 use Rattle.tia.proofs.RangeLaws.{timing_stays}
@@ -35,11 +36,7 @@ clock_in_time s w ok = timing_stays w s.timing ok
 -- A stored byte: the buffer keeps its length, and one more column is that of the picture.
 stored_length : (n byte : ℕ) (buffer : List ℕ) → length (stored n byte buffer) ≡ length buffer
 unfolding stored
-stored_length n byte buffer =
-    ⊎_elim
-    (λ (h : n < 68). rw (lt-ltb n 68 h))
-    (λ (h : 68 ≤ n). rw (le-ltb n 68 h) (length-set buffer (n - 68) byte))
-    (split n 68)
+stored_length n byte buffer = let kept = length-set buffer (n - 68) byte in grind (arith, nat_tests)
 
 module _ (n byte : ℕ) (buffer columns : List ℕ) where
   before_columns : n < 68 → take (n + 1 - 68) (stored n byte buffer) ≡ take (n + 1 - 68) columns
@@ -66,16 +63,10 @@ column :
     byte ≡ output_at out (writes_of ws) s h → Filled out s ws (stored h byte buffer) (h + 1)
 column out s ws buffer h byte room filled below e =
     ⊎_elim
-    (λ (blank : h < 68). before_columns h byte buffer (columns_of out s ws) blank)
+    (λ (blank : h < 68). before_columns _ _ _ _ blank)
     (λ (shown : 68 ≤ h).
     let same : 68 + (h - 68) ≡ h = omega arith in
-    in_column
-    h
-    byte
-    buffer
-    (columns_of out s ws)
-    filled
-    shown
+    in_column _ _ _ _ filled shown
     (omega arith)
     (omega (arith, columns_length out s ws))
     (e ∙ sym (column_output out s ws (h - 68) (omega arith) ∙ ap (output_at out (writes_of ws) s) same)))
@@ -87,29 +78,25 @@ all_filled :
 all_filled out s ws buffer room filled =
     sym (take_all 160 buffer (omega arith)) ∙ filled ∙ take_all 160 (columns_of out s ws) (omega (arith, columns_length out s ws))
 
--- A line before clock h: the state, a cursor that stands for the lookup, and the columns of both buffers up to h filled.
-pub record Running (s₀ : State) (ws : List ℕ) (s : State) (lent : Buffers) (cursor h : ℕ) : Type 0 where
+-- A line before clock h: the state, what is left of the list and stands for the lookup, and the columns of both buffers up to h filled.
+pub record Running (s₀ : State) (ws : List ℕ) (s : State) (lent : Buffers) (rest : List ℕ) (h : ℕ) : Type 0 where
   pub within : h ≤ 228
-  pub whole : length ws % 3 ≡ 0
-  pub short : length ws ≤ 684
   pub reached : s ≡ state_at (writes_of ws) s₀ h
   pub in_time : timing_in_range s.timing ≡ true
-  pub follows : Follows ws h cursor
+  pub follows : Follows ws h rest
   pub room : length lent.objects ≡ 160
   pub colour_room : length lent.colours ≡ 160
   pub filled : Filled byte_out s₀ ws lent.objects h
   pub coloured : Filled colour_out s₀ ws lent.colours h
 
 pub line_starts :
-    (s : State) (ws : List ℕ) (lent : Buffers) → (line_fault s ws (rooms_of lent)).number ≡ 0 → Running s ws s lent 0 0
+    {s : State} {ws : List ℕ} {lent : Buffers} → (line_fault s ws (rooms_of lent)).number ≡ 0 → Running s ws s lent ws 0
 unfolding state_at
-line_starts s ws lent none =
+line_starts {s} {ws} {lent} none =
     let call = no_fault s ws (rooms_of lent) none in
     let list = sound_by ws call.list in
     record {
       within = omega arith;
-      whole = list.whole;
-      short = list.short;
       reached = refl;
       in_time = good_in_time s call.good;
       follows = follows_start ws list.rises;
@@ -119,20 +106,18 @@ line_starts s ws lent none =
       coloured = refl;
     }
 
-module _ (s₀ : State) (ws : List ℕ) (s : State) (lent : Buffers) (cursor h : ℕ) (now : Running s₀ ws s lent cursor h) where
+module _ {s₀ : State} {ws : List ℕ} {s : State} {lent : Buffers} {rest : List ℕ} {h : ℕ} (now : Running s₀ ws s lent rest h) where
   pub line_goes_on :
-      (w : Write) (k : Clocked) (objects colours : List ℕ) (next : ℕ) →
-      h < 228 → w ≡ due_at (records_of (drop cursor ws)) h → k ≡ clock_of s w →
-      objects ≡ stored h k.byte lent.objects → colours ≡ stored h k.colour lent.colours → next ≡ passed_by w cursor →
-      Running s₀ ws k.state (buffers objects colours) next (h + 1)
+      {w : Write} {k : Clocked} {objects colours later : List ℕ} →
+      h < 228 → w ≡ due_at (records_of rest) h → k ≡ clock_of s w →
+      objects ≡ stored h k.byte lent.objects → colours ≡ stored h k.colour lent.colours → later ≡ left_by w rest →
+      Running s₀ ws k.state (buffers objects colours) later (h + 1)
   unfolding state_at
-  line_goes_on w k objects colours next below due clocked put painted past =
-      let found = cursor_is_lookup ws h cursor now.whole now.follows in
+  line_goes_on {w} {k} below due clocked put painted past =
+      let found = cursor_is_lookup ws h rest now.follows in
       let one : k ≡ clock_of (state_at (writes_of ws) s₀ h) (writes_of ws h) = rw (← now.reached, ← found.0, ← due) clocked in
       record {
         within = omega arith;
-        whole = now.whole;
-        short = now.short;
         reached = rw add-one (ap (λ (k : Clocked). k.state) one);
         in_time = rw clocked (clock_in_time s w now.in_time);
         follows = rw (past, due) found.1;

@@ -6,9 +6,10 @@ use mathlib.Core.List.{List, [], ◌∷◌}
 use Prim.Native.Nat.{ℕ, ◌+◌, ◌-◌, ◌*◌, ◌/◌, ◌%◌, ◌<◌, ◌≤◌}
 use native.Mathlib.Nat.{div-lt_iff_lt-mul}
 use native.Mathlib.Omega.{arith}
-use borrow.Author.Tests.{lt-ltb, le-ltb, lt-leb, leb-true, ltb-true, eqb-true}
+use borrow.Author.Tests.{lt-ltb, le-ltb, lt-leb, ltb-true}
 use lib.Dec.{eqb, ltb, leb}
-use Rattle.laws.proofs.Bools.{cond_passes, and_first, and_second, or_first, or_second, is_true, holds_of}
+use Rattle.std.proofs.lemmas.Bool.Decides.{nat_tests}
+use Rattle.laws.proofs.Bools.{and_first, is_true, holds_of}
 use Rattle.laws.proofs.Split.{split}
 use Rattle.laws.proofs.Table.{every_below, below}
 use Rattle.tia.specs.declared.drawing.Drawing.{Drawing}
@@ -51,17 +52,7 @@ unfolding goes_on next_drawing drawing_at
 all_go_on copies = of_sizes (λ size. every_below 65 (goes_on size) ≡ true) copies refl refl refl
 
 same_drawing : (d e : Drawing) → equal_drawings d e ≡ true → d ≡ e
-same_drawing d e t =
-    rebuilt
-    d.pixel
-    e.pixel
-    d.shown
-    e.shown
-    (eqb-true d.pixel e.pixel (and_first (eqb d.pixel e.pixel) _ t))
-    (eqb-true d.shown e.shown (and_second (eqb d.pixel e.pixel) _ t))
-  where
-    rebuilt : (p q n m : ℕ) → p ≡ q → n ≡ m → ◌≡◌ {A = Drawing} (record { pixel = p; shown = n }) (record { pixel = q; shown = m })
-    rebuilt p q n m e f = rw (e, f)
+same_drawing d e t = grind (arith, nat_tests)
 
 -- Past age 64, which is none of a good state, nothing is drawn either.
 late_age : (copies age : ℕ) → 64 ≤ age → drawing_at (size_of copies) age ≡ drawing_at (size_of copies) 64
@@ -94,7 +85,7 @@ on_pulse copies age =
 
 -- A copy starts drawing after its start; at age 0 nothing is drawn.
 first_above : (size : ℕ) → 0 < drawing_age size
-first_above size = ltb-true 0 (drawing_age size) (cond_passes (λ n. ltb 0 n) (eqb size 1) refl refl)
+first_above size = grind (arith, nat_tests)
 
 at_start_lem : (size : ℕ) → drawing_at size 0 ≡ no_drawing
 unfolding drawing_at
@@ -179,9 +170,8 @@ drawing_lit_lem g size age = by_test (is_drawn size age) refl
 
     within : is_drawn size age ≡ true → column < 8 * size
     within e =
-        let first = leb-true (drawing_age size) age (and_first (leb (drawing_age size) age) _ e) in
-        let last = leb-true age (last_age size) (and_second (leb (drawing_age size) age) _ e) in
-        omega (arith, first, last, first_above size)
+        let above = first_above size in
+        grind (arith, nat_tests)
 
     by_test :
         (b : Bool) → is_drawn size age ≡ b →
@@ -208,7 +198,7 @@ lit_by_age_lem q size s w ws start stays =
 
 size_one : (copies : ℕ) → (eqb copies 5 || eqb copies 7) ≡ false → size_of copies ≡ 1
 unfolding size_of
-size_one copies e = rw (or_first (eqb copies 5) (eqb copies 7) e, or_second (eqb copies 5) (eqb copies 7) e)
+size_one copies e = grind (arith, nat_tests)
 
 sizes_one :
     (q : PlayerName) (s : State) (ws : List Write) → CopiesAlways q (λ copies. (eqb copies 5 || eqb copies 7) ≡ false) s ws → SizeStays q 1 s ws

@@ -35,7 +35,7 @@ tick_at w t = tick_of w (timing_written w t)
 unfoldable pub timing_next : Write → Timing → Timing
 timing_next w t = timing_after (comparing w (timing_written w t)) (timing_written w t)
 
-unfoldable pub track_next : (motionRegister : ℕ) → Write → Track → Track
+unfoldable pub track_next : (motion_register : ℕ) → Write → Track → Track
 track_next hm w t =
     record {
       timing = timing_next w t.timing;
@@ -43,7 +43,7 @@ track_next hm w t =
       live = (slot_passed (tick_at w t.timing) (anywhere hm w t)).live;
     }
 
-unfoldable pub pulsed_on : (motionRegister : ℕ) → Write → Track → Bool
+unfoldable pub pulsed_on : (motion_register : ℕ) → Write → Track → Bool
 pulsed_on hm w t = is_pulsed (tick_at w t.timing) (anywhere hm w t)
 
 -- A clock acts on an object's track alone, ..

@@ -1,11 +1,9 @@
 -- Turning by integers: the remainder modulo 160 of a sum, and of a signed motion value.
 use mathlib.Core.Path.{◌≡◌, ◌∙◌, sym, ap}
-use mathlib.Core.Logic.{⊎_elim}
-use Prim.Native.Nat.{ℕ, suc, ◌+◌, ◌-◌, ◌%◌, ◌<◌, ◌≤◌}
+use Prim.Native.Nat.{ℕ, suc, ◌+◌, ◌-◌, ◌%◌, ◌<◌}
 use native.Mathlib.Omega.{arith}
-use borrow.Author.Tests.{lt-ltb, le-ltb}
 use lib.IntN.{ℤ, pos, negsuc, sub_ℕ, ◌+ℤ◌}
-use Rattle.laws.proofs.Split.{split}
+use Rattle.std.proofs.lemmas.Bool.Decides.{nat_tests}
 use Rattle.tia.specs.Signed.{signed, mod160}
 use Rattle.tia.specs.Demand3.{turned}
 use Rattle.tia.proofs.MotionLaws.{end_slot, compare_is_remainder}
@@ -26,11 +24,7 @@ mod_below (negsuc n) = omega arith
 -- The remainder of a difference of two numbers.
 difference : (a b : ℕ) → mod160 (sub_ℕ a (suc b)) ≡ (a % 160 + (159 - b % 160)) % 160
 unfolding mod160
-difference a b =
-    ⊎_elim
-    (λ (l : a < suc b). rw (lt-ltb a (suc b) l) (omega arith))
-    (λ (l : suc b ≤ a). rw (le-ltb a (suc b) l) (omega arith))
-    (split a (suc b))
+difference a b = grind (arith, nat_tests)
 
 -- The remainder of a sum.
 pub mod_add : (a b : ℤ) → mod160 (a +ℤ b) ≡ (mod160 a + mod160 b) % 160

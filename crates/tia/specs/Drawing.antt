@@ -12,8 +12,8 @@ abbrev pub no_drawing : Drawing
 no_drawing = record { pixel = no_pixel; shown = 0 }
 
 -- 6. A copy starts drawing at age 5, or 6 when its size at the start is 2 or 4. Age 5 is *kit*.
-abbrev pub drawing_age : (sizeAtStart : ℕ) → ℕ
-drawing_age sizeAtStart = cond (eqb sizeAtStart 1) 5 6
+abbrev pub drawing_age : (size_at_start : ℕ) → ℕ
+drawing_age size_at_start = cond (eqb size_at_start 1) 5 6
 
 -- On that pulse it shows pixel 0 for the first time.
 abbrev pub first_pixel : Drawing
@@ -28,13 +28,13 @@ abbrev pub shown_again : Drawing → Drawing
 shown_again d = record { pixel = d.pixel; shown = d.shown + 1 }
 
 -- At pixel 8 both stay until a new start, or until a copy starts drawing.
-abbrev pub gone_on : (sizeNow : ℕ) → Drawing → Drawing
-gone_on sizeNow d = cond (ltb d.pixel no_pixel) (cond (leb sizeNow d.shown) (next_pixel d) (shown_again d)) d
+abbrev pub gone_on : (size_now : ℕ) → Drawing → Drawing
+gone_on size_now d = cond (ltb d.pixel no_pixel) (cond (leb size_now d.shown) (next_pixel d) (shown_again d)) d
 
 -- The drawing after a pulse, by the age that the pulse brings. A new start ends a copy in progress.
-unfoldable pub next_drawing : (start : Bool) (age sizeAtStart sizeNow : ℕ) → Drawing → Drawing
-next_drawing start age sizeAtStart sizeNow d =
-    cond start no_drawing (cond (eqb age (drawing_age sizeAtStart)) first_pixel (gone_on sizeNow d))
+unfoldable pub next_drawing : (start : Bool) (age size_at_start size_now : ℕ) → Drawing → Drawing
+next_drawing start age size_at_start size_now d =
+    cond start no_drawing (cond (eqb age (drawing_age size_at_start)) first_pixel (gone_on size_now d))
 
 -- 8. Lit: where there is a pixel and its bit is set, from bit 7 down, or from bit 0 up when reflected, of the new graphic, or the
 -- old with VDELP.

@@ -1,9 +1,8 @@
 -- What is said of the line call's refusals and of the first lit column: the rows of the table, the first bad record, the
 -- smallest column.
-use Rattle.std.specs.Prelude.{ℕ, zero, suc, ◌+◌, ◌≤◌, ◌<◌, ◌≡◌, ◌↔◌, true, false, List, [], ◌∷◌, ◌++◌, length}
+use Rattle.std.specs.Prelude.{ℕ, zero, suc, ◌+◌, ◌≤◌, ◌<◌, ◌≡◌, ◌↔◌, true, false, List, [], ◌∷◌, ◌++◌, length, Option, Some, None, Result, Ok, Err}
 use Rattle.laws.specs.Refusal.{Row, row, GivenInOrder}
-use Rattle.tia.specs.declared.first_lit.FirstLit.{FirstLit}
-use Rattle.tia.specs.declared.first_lit.FirstLit.TheVariants.{Column, Unlit, Refused}
+use Rattle.refusal.specs.declared.Refusal.{Refusal}
 use Rattle.tia.specs.declared.state.State.{State}
 use Rattle.tia.specs.Write.{known}
 use Rattle.laws.specs.Numbers.{BadLength, for_line_clock, for_buffer_length, for_list_length}
@@ -66,7 +65,7 @@ abbrev pub DarkBelow : List ℕ → (object x : ℕ) → Type 0
 DarkBelow buffer object x = (y : ℕ) → y < x → shows_at object buffer y ≡ false
 
 -- A column that is found is the smallest of the 160 that shows the object; where none is found, none shows it.
-abbrev pub Smallest : List ℕ → (object : ℕ) → FirstLit → Type 0
-Smallest buffer object (Column x) = (x < 160) × ((shows_at object buffer x ≡ true) × DarkBelow buffer object x)
-Smallest buffer object Unlit = DarkBelow buffer object 160
-Smallest buffer object (Refused n) = Unit {0}
+abbrev pub Smallest : List ℕ → (object : ℕ) → Result (Option ℕ) Refusal → Type 0
+Smallest buffer object (Ok (Some x)) = (x < 160) × ((shows_at object buffer x ≡ true) × DarkBelow buffer object x)
+Smallest buffer object (Ok None) = DarkBelow buffer object 160
+Smallest buffer object (Err refusal) = Unit {0}

@@ -34,17 +34,20 @@ ball_lit e ctrlpf o = missile_lit (cond e.delayed e.old e.new) (ctrlpf / 16 % 4)
 abbrev pub column_of : ℕ → ℕ
 column_of h = h - blank_clocks
 
--- 8 and 9: registers are read at this clock, after step 2, and objects after step 7.
-unfoldable pub lit_of : ℕ → Registers → Objects → Lit
-lit_of h r os =
+-- 8 and 9: what is lit in a column; registers are read at this clock, after step 2, and objects after step 7.
+abbrev pub lit_at : (column : ℕ) → Registers → Objects → Lit
+lit_at x r os =
     record {
       p0 = player_lit r.graphic0 os.p0;
       p1 = player_lit r.graphic1 os.p1;
       m0 = missile_lit r.enam0 r.nusiz0.width os.m0;
       m1 = missile_lit r.enam1 r.nusiz1.width os.m1;
       bl = ball_lit r.enabl r.playfield.ctrlpf os.bl;
-      pf = playfield_lit r.playfield (column_of h);
+      pf = playfield_lit r.playfield x;
     }
+
+unfoldable pub lit_of : ℕ → Registers → Objects → Lit
+lit_of h r os = lit_at (column_of h) r os
 
 -- 10. The answer byte: 128 for h below 68; 64 for a blank column; otherwise bits 0 to 5 for P0, P1, M0, M1, BL, PF.
 unfoldable pub lit_bits : Lit → ℕ

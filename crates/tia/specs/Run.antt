@@ -1,6 +1,6 @@
 -- A run of lines: a list of line calls, each from the state that the call before handed back.
 use Rattle.std.specs.Prelude.{ℕ, ◌^◌, ◌≡◌, Bool, true, false, cond, ◌&&◌, ◌||◌, not, List, [], ◌∷◌, eqb, ltb, leb, ℤ, pos, ◌+ℤ◌, length}
-use Rattle.tia.specs.declared.line_call.LineAnswer.{LineAnswer}
+use Rattle.tia.specs.Answers.{LineAnswer}
 use Rattle.tia.specs.declared.state.State.{State}
 use Rattle.tia.specs.Write.{HMBL, HMCLR, HMOVE, HMP0}
 use Rattle.tia.specs.Registers.{upper}
@@ -69,18 +69,18 @@ pub record Reckoning : Type 0 where
   pub half : ℕ
   pub sum : ℤ
 
-unfoldable pub reckon : (motionRegister : ℕ) → Reckoning → TimedWrite → Reckoning
+unfoldable pub reckon : (motion_register : ℕ) → Reckoning → TimedWrite → Reckoning
 reckon hm k r =
     record {
       half = cond (eqb r.address hm) (upper r.value) (cond (eqb r.address HMCLR) 0 k.half);
       sum = cond (eqb r.address HMOVE) (k.sum +ℤ signed k.half) k.sum;
     }
 
-abbrev pub reckon_line : (motionRegister : ℕ) → Reckoning → List TimedWrite → Reckoning
+abbrev pub reckon_line : (motion_register : ℕ) → Reckoning → List TimedWrite → Reckoning
 reckon_line hm k [] = k
 reckon_line hm k (r ∷ rs) = reckon_line hm (reckon hm k r) rs
 
-abbrev pub reckon_lines : (motionRegister : ℕ) → Reckoning → List (List TimedWrite) → Reckoning
+abbrev pub reckon_lines : (motion_register : ℕ) → Reckoning → List (List TimedWrite) → Reckoning
 reckon_lines hm k [] = k
 reckon_lines hm k (l ∷ ls) = reckon_lines hm (reckon_line hm k l) ls
 

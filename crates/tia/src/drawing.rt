@@ -1,8 +1,9 @@
 // The drawing of a player's copy: its pixel, the clocks it has been shown, and what a pulse does to them.
 ghost use Rattle.std.specs.Prelude.{cond, ◌≡◌, ◌<◌};
-ghost use Rattle.tia.specs.Drawing.{no_drawing, gone_on, next_drawing, shown_bit, drawing_lit};
+ghost use Rattle.tia.specs.Drawing.{no_drawing, drawing_age, gone_on, next_drawing, shown_bit, drawing_lit};
 
-use crate::choose::{bit, byte};
+use crate::bits::bit;
+use crate::object::Moved;
 use crate::registers::Graphic;
 use mirror::mirrored;
 
@@ -24,8 +25,19 @@ pub struct Drawing {
     pub shown: u8,
 }
 
+// The age at which a copy of this size at the start starts drawing.
+fn drawing_age(held: u8) -> u8
+    ensures { result ≡ drawing_age held }
+{
+    if held == 1 {
+        DRAWING_AGE
+    } else {
+        STRETCHED_DRAWING_AGE
+    }
+}
+
 impl Drawing {
-    // No pixel shown.
+    // No pixel shown. (`default` would say pixel 0.)
     pub(crate) fn none() -> Self
         ensures { result ≡ no_drawing }
     {
@@ -39,66 +51,63 @@ impl Drawing {
     fn gone_on(self, size: u8) -> Self
         ensures { result ≡ gone_on size self }
     {
-        let pixel = self.pixel;
-        let shown = self.shown;
-        if pixel >= NO_PIXEL {
+        if self.pixel >= NO_PIXEL {
             return self;
         }
-        if shown < size {
+        if self.shown < size {
             return Self {
-                pixel,
-                shown: shown + 1,
+                shown: self.shown + 1,
+                ..self
             };
         }
-        if pixel == LAST_PIXEL {
+        if self.pixel == LAST_PIXEL {
             return Self::none();
         }
         Self {
-            pixel: pixel + 1,
+            pixel: self.pixel + 1,
             shown: 1,
         }
     }
 
-    // The drawing after a clock. On a pulse, which brings this age: none at a start, pixel 0 where the copy starts drawing, else
-    // by the size now.
-    pub(crate) fn after(self, pulse: bool, start: bool, age: u8, held: u8, size: u8) -> Self
-        ensures { result ≡ cond pulse (next_drawing start age held size self) self }
+    // The drawing after a clock that moved the player so. On a pulse: none at a start, pixel 0 at the age where a copy of the held
+    // size starts drawing, else by the size now.
+    #[tactic(auto, unfolding(crate::specs::Drawing::next_drawing))]
+    pub(crate) fn after(self, moved: Moved, held: u8, size: u8) -> Self
+        ensures { result ≡ cond moved.pulsed (next_drawing moved.started moved.object.age held size self) self }
     {
-        if !pulse {
-            return self;
+        if !moved.pulsed {
+            self
+        } else if moved.started {
+            Self::none()
+        } else if moved.object.age == drawing_age(held) {
+            Self { pixel: 0, shown: 1 }
+        } else {
+            self.gone_on(size)
         }
-        if start {
-            return Self::none();
-        }
-        if age == byte(held == 1, DRAWING_AGE, STRETCHED_DRAWING_AGE) {
-            return Self { pixel: 0, shown: 1 };
-        }
-        self.gone_on(size)
     }
 
     // Whether the drawing is lit: by its pixel's bit of the graphic.
+    #[tactic(auto, unfolding(crate::specs::Drawing::drawing_lit))]
     pub(crate) fn lit(self, graphic: Graphic) -> bool
         ensures { result ≡ drawing_lit graphic self }
     {
-        let pixel = self.pixel;
-        if pixel >= NO_PIXEL {
-            return false;
-        }
-        graphic.shown(pixel)
+        self.pixel < NO_PIXEL && graphic.shown(self.pixel)
     }
 }
 
 impl Graphic {
-    // Whether the graphic shows pixel n, counted from the left. A reflected one is looked up in the table of mirrored bytes, then read as one
-    // that is not.
+    // Whether the graphic shows pixel n, counted from the left. A reflected one is looked up in the table of mirrored bytes, then read
+    // as one that is not.
+    #[tactic(auto, using(crate::proofs::ReflectionLaws::looked_up_is_shown))]
     fn shown(self, n: u8) -> bool
         requires { n < 8 }
         ensures { result ≡ shown_bit self n }
     {
-        let graphic = byte(self.delayed, self.old, self.new);
+        let graphic = if self.delayed { self.old } else { self.new };
         if self.reflected {
-            return bit(7 - n, mirrored(graphic));
+            bit(7 - n, mirrored(graphic))
+        } else {
+            bit(7 - n, graphic)
         }
-        bit(7 - n, graphic)
     }
 }

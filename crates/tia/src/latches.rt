@@ -1,13 +1,13 @@
 // The fifteen collision latches (step 10) and their read-out.
 ghost use Rattle.std.specs.Prelude.{◌||◌, ◌≡◌};
-ghost use Rattle.tia.specs.State.{no_latches};
 ghost use Rattle.tia.specs.Latches.{pairs_of, latches_written, latches_after, each_latch, read_out_byte, read_out};
 
-use crate::lit::{Lit, weight_of};
+use crate::lit::Lit;
 use crate::write::{CXCLR, Write};
+use std::ops::BitOr;
 
 // A latch for each pair of objects, in the order of the read-out.
-#[derive(Clone, Copy)]
+#[derive(Clone, Copy, Default)]
 pub struct Latches {
     pub m0p1: bool,
     pub m0p0: bool,
@@ -27,55 +27,51 @@ pub struct Latches {
 }
 
 impl Latches {
-    // No latch set.
-    pub(crate) fn none() -> Self
-        ensures { result ≡ no_latches }
-    {
-        Self {
-            m0p1: false,
-            m0p0: false,
-            m1p0: false,
-            m1p1: false,
-            p0pf: false,
-            p0bl: false,
-            p1pf: false,
-            p1bl: false,
-            m0pf: false,
-            m0bl: false,
-            m1pf: false,
-            m1bl: false,
-            blpf: false,
-            p0p1: false,
-            m0m1: false,
-        }
-    }
-
     // Step 2: CXCLR clears all latches.
+    #[tactic(auto, unfolding(crate::specs::Latches::latches_written))]
     pub(crate) fn written(self, write: Write) -> Self
         ensures { result ≡ latches_written write self }
     {
         if write.hits(CXCLR) {
-            Self::none()
+            Self::default()
         } else {
             self
         }
     }
 
     // Step 10: in an unblanked column every pair lit together sets its latch.
+    #[tactic(auto, unfolding(crate::specs::Latches::latches_after))]
     pub(crate) fn after(self, blank: bool, lit: Lit) -> Self
         ensures { result ≡ latches_after blank lit self }
     {
-        if blank {
-            self
-        } else {
-            self.joined(lit.pairs())
-        }
+        if blank { self } else { self | lit.pairs() }
     }
 
-    // The latches set in either.
-    fn joined(self, pairs: Latches) -> Self
-        ensures { result ≡ each_latch ◌||◌ self pairs }
+    // The eight bytes of the read-out.
+    #[tactic(auto, unfolding(crate::specs::Latches::read_out))]
+    pub(crate) fn bytes(self) -> [u8; 8]
+        ensures { result ≡ read_out self }
     {
+        [
+            read_out_byte(self.m0p1, self.m0p0),
+            read_out_byte(self.m1p0, self.m1p1),
+            read_out_byte(self.p0pf, self.p0bl),
+            read_out_byte(self.p1pf, self.p1bl),
+            read_out_byte(self.m0pf, self.m0bl),
+            read_out_byte(self.m1pf, self.m1bl),
+            read_out_byte(self.blpf, false),
+            read_out_byte(self.p0p1, self.m0m1),
+        ]
+    }
+}
+
+impl BitOr for Latches {
+    type Output = Latches;
+
+    ghost bitor_gives = { λ one other both. both ≡ each_latch ◌||◌ one other };
+
+    // The latches set in either.
+    fn bitor(self, pairs: Latches) -> Latches {
         Self {
             m0p1: self.m0p1 | pairs.m0p1,
             m0p0: self.m0p0 | pairs.m0p0,
@@ -94,29 +90,13 @@ impl Latches {
             m0m1: self.m0m1 | pairs.m0m1,
         }
     }
-
-    // The eight bytes of the read-out.
-    pub(crate) fn bytes(self) -> [u8; 8]
-        ensures { result ≡ read_out self }
-    {
-        [
-            read_out_byte(self.m0p1, self.m0p0),
-            read_out_byte(self.m1p0, self.m1p1),
-            read_out_byte(self.p0pf, self.p0bl),
-            read_out_byte(self.p1pf, self.p1bl),
-            read_out_byte(self.m0pf, self.m0bl),
-            read_out_byte(self.m1pf, self.m1bl),
-            read_out_byte(self.blpf, false),
-            read_out_byte(self.p0p1, self.m0m1),
-        ]
-    }
 }
 
 // A byte of the read-out: two latches in bits 7 and 6.
 fn read_out_byte(high: bool, low: bool) -> u8
     ensures { result ≡ read_out_byte high low }
 {
-    weight_of(high, 128) + weight_of(low, 64)
+    128 * u8::from(high) + 64 * u8::from(low)
 }
 
 impl Lit {
@@ -124,12 +104,14 @@ impl Lit {
     pub(crate) fn pairs(self) -> Latches
         ensures { result ≡ pairs_of self }
     {
-        let p0 = self.p0;
-        let p1 = self.p1;
-        let m0 = self.m0;
-        let m1 = self.m1;
-        let bl = self.bl;
-        let pf = self.pf;
+        let Lit {
+            p0,
+            p1,
+            m0,
+            m1,
+            bl,
+            pf,
+        } = self;
         Latches {
             m0p1: m0 & p1,
             m0p0: m0 & p0,

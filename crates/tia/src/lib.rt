@@ -1,9 +1,9 @@
 // The kit's TIA: the chip's state, one colour clock, a line, the collision read-out, and the first lit column.
 #![tactic(auto)]
 
-mod answers;
-mod choose;
+mod bits;
 mod clock;
+mod clock_call;
 mod colours;
 mod drawing;
 mod first_lit;
@@ -12,21 +12,22 @@ mod line_call;
 mod lit;
 mod object;
 mod playfield;
-mod refusal;
+mod read_out_call;
 mod registers;
 mod state;
 mod timing;
 mod write;
 mod write_list;
 
-pub use answers::{ClockAnswer, ReadOut, colour_clock, read_out};
+pub use clock_call::{Output, colour_clock};
 pub use colours::Colours;
 pub use drawing::Drawing;
-pub use first_lit::{FirstLit, first_lit_column};
+pub use first_lit::first_lit_column;
 pub use latches::Latches;
-pub use line_call::{LineAnswer, line};
+pub use line_call::line;
 pub use object::{Object, Player};
 pub use playfield::Playfield;
+pub use read_out_call::read_out;
 pub use registers::{Enable, Graphic, Nusiz, Registers};
 pub use state::{Objects, State};
 pub use timing::Timing;

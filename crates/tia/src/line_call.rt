@@ -1,114 +1,81 @@
 // The line call: 228 clocks with a list of writes, and the answer bytes and colours of its 160 columns.
-ghost use Rattle.std.specs.Prelude.{◌≡◌, ◌≤◌, ◌%◌, length, drop};
-ghost use Rattle.tia.specs.WriteList.{records_of};
+ghost use Rattle.std.specs.Prelude.{◌≡◌, ◌≤◌, length};
+ghost use Rattle.tia.specs.WriteList.{fault_numbers, records_of};
 ghost use Rattle.tia.specs.Line.{line_of, buffers, pictures, rooms};
-ghost use Rattle.tia.specs.Cursor.{due_at, passed_by, stored};
-ghost use Rattle.tia.specs.Answers.{line_fault, LinePromise};
+ghost use Rattle.tia.specs.Cursor.{due_at, left_by, stored};
+ghost use Rattle.tia.specs.Answers.{line_fault, line_numbers, LinePromise};
 
 use crate::clock::steps;
-use crate::refusal::{BAD_STATE, BUFFER_LENGTH, COLOUR_LENGTH, LINE_CLOCK};
 use crate::state::State;
 use crate::timing::{BLANK, CLOCKS};
 use crate::write::Write;
-use crate::write_list::{Fault, list_fault};
+use crate::write_list::check_list;
+use refusal::{Fault, Refusal};
 
 // The answer bytes of a line, one a column; its colours are as many.
 pub(crate) const LINE_BYTES: usize = 160;
 
-// The answer of a line: refusal number (0: accepted), index of the record at fault, next state.
-#[derive(Clone, Copy)]
-pub struct LineAnswer {
-    pub number: u8,
-    pub index: u8,
-    pub state: State,
-}
-
-// The first fault of a line call: state (1), line clock (2), buffer (3), colour buffer (11), then the list's.
-fn line_fault(state: State, writes: &[u8], room: usize, colours: usize) -> Fault
-    ensures { result ≡ line_fault state writes.now (rooms room colours) }
+// Refuses a bad state (1), h not 0 (2), a buffer (3) or a colour buffer (11) that is not 160 bytes long, then the list (4 to 7).
+#[tactic(auto, using(std::proofs::lemmas::Bool::Decides::nat_tests), unfolding(crate::specs::Answers::line_fault))]
+fn check_line(state: State, writes: &[u8], room: usize, colours: usize) -> Result<(), Fault>
+    ensures { fault_numbers result ≡ line_fault state writes.now (rooms room colours) }
 {
     if state.is_bad() {
-        return Fault {
-            number: BAD_STATE,
-            index: 0,
-        };
+        return Err(Fault::from(Refusal::BadState));
     }
     let h = state.timing.h;
     if h != 0 {
-        return Fault {
-            number: LINE_CLOCK,
-            index: 0,
-        };
+        return Err(Fault::from(Refusal::LineClock));
     }
     if room != LINE_BYTES {
-        return Fault {
-            number: BUFFER_LENGTH,
-            index: 0,
-        };
+        return Err(Fault::from(Refusal::BufferLength));
     }
     if colours != LINE_BYTES {
-        return Fault {
-            number: COLOUR_LENGTH,
-            index: 0,
-        };
+        return Err(Fault::from(Refusal::ColourLength));
     }
-    list_fault(writes)
+    check_list(writes)
 }
 
-// The write due on a clock: that of the record at the cursor, if it has this clock.
-fn due(writes: &[u8], cursor: usize, h: u8) -> Write
-    requires { (cursor % 3 ≡ 0) × (length writes.now % 3 ≡ 0) }
-    ensures { result ≡ due_at (records_of (drop cursor writes.now)) h }
+// The write due on a clock, that of the first record left if it has this clock; and the records left after it.
+#[tactic(auto, using(std::proofs::lemmas::Bool::Decides::nat_tests, crate::proofs::CursorLaws::records_at), unfolding(crate::specs::Cursor::due_at))]
+fn due(rest: &[u8], h: u8) -> (Write, &[u8])
+    ensures { (result.0 ≡ due_at (records_of rest.now) h) × (result.1.now ≡ left_by result.0 rest.now) }
 {
-    if cursor < writes.len() {
-        let clock = writes[cursor];
-        if clock == h {
-            return Write::Register {
-                address: writes[cursor + 1],
-                value: writes[cursor + 2],
+    match rest {
+        [clock, address, value, later @ ..] if *clock == h => {
+            let write = Write::Register {
+                address: *address,
+                value: *value,
             };
+            (write, later)
         }
-    }
-    Write::Nothing
-}
-
-// The cursor after a clock: past the record that was written.
-fn passed(cursor: usize, write: Write) -> usize
-    requires { cursor ≤ 684 }
-    ensures { result ≡ passed_by write cursor }
-{
-    match write {
-        Write::Nothing => cursor,
-        Write::Register {
-            address: _,
-            value: _,
-        } => cursor + 3,
+        _ => (Write::Nothing, rest),
     }
 }
 
 // Stores a clock's byte in its column; in the horizontal blank nothing.
+#[tactic(auto, using(std::proofs::lemmas::Bool::Decides::nat_tests), unfolding(crate::specs::Cursor::stored))]
 fn store(buffer: &mut [u8], h: u8, byte: u8)
     requires { (h ≤ 227) × (length buffer.old ≡ 160) }
     ensures { buffer.new ≡ stored h byte buffer.old }
 {
     if h >= BLANK {
-        let column = (h - BLANK) as usize;
-        buffer[column] = byte;
+        buffer[usize::from(h - BLANK)] = byte;
     }
 }
 
-// The 228 clocks of a line that has no fault.
+// The 228 clocks of a line that has no fault. (It takes what the public call takes, as it takes it.)
 fn scanline(mut state: State, writes: &[u8], buffer: &mut [u8], colours: &mut [u8]) -> State
     requires { (line_fault state writes.now (rooms (length buffer.old) (length colours.old))).number ≡ 0 }
     ensures { (result ≡ (line_of state writes.now).state) × (buffers buffer.new colours.new ≡ pictures (line_of state writes.now)) }
 {
-    let mut cursor = 0usize;
+    let mut rest = writes;
     for h in 0..CLOCKS {
-        let write = due(writes, cursor, h);
+        let (write, later) = due(rest, h);
         let clocked = steps(state, write);
         store(buffer, h, clocked.byte);
         store(colours, h, clocked.colour);
-        cursor = passed(cursor, write);
+        rest = later;
         state = clocked.state;
     }
     state
@@ -116,24 +83,18 @@ fn scanline(mut state: State, writes: &[u8], buffer: &mut [u8], colours: &mut [u
 
 // One line: fills the buffer with the answer bytes of its 160 columns and the second one with their colours. Refuses a bad
 // state (1), h not 0 (2), a buffer not 160 bytes long (3), a colour buffer not 160 bytes long (11), then the list: its length
-// (4), and record by record a clock over 227 (5), one not above the one before (6), an unknown register (7).
-pub fn line(state: State, writes: &[u8], buffer: &mut [u8], colours: &mut [u8]) -> LineAnswer
-    ensures { LinePromise state writes.now (buffers buffer.old colours.old) result (buffers buffer.new colours.new) }
+// (4), and record by record a clock over 227 (5), one not above the one before (6), an unknown register (7); and leaves the state
+// and both buffers then. (Two buffers and no struct of them: a caller lends any two slices, and one may be refused without the other.)
+#[tactic(auto, using(std::proofs::lemmas::Bool::Decides::nat_tests, refusal::proofs::NumberLaws::number_not_zero), unfolding(crate::specs::Answers::line_answer, crate::specs::Answers::line_buffers))]
+pub fn line(
+    state: &mut State,
+    writes: &[u8],
+    buffer: &mut [u8],
+    colours: &mut [u8],
+) -> Result<(), Fault>
+    ensures { LinePromise state.old writes.now (buffers buffer.old colours.old) (line_numbers result state.new) (buffers buffer.new colours.new) }
 {
-    let fault = line_fault(state, writes, buffer.len(), colours.len());
-    let number = fault.number;
-    let index = fault.index;
-    if number == 0 {
-        let next = scanline(state, writes, buffer, colours);
-        return LineAnswer {
-            number,
-            index,
-            state: next,
-        };
-    }
-    LineAnswer {
-        number,
-        index,
-        state,
-    }
+    check_line(*state, writes, buffer.len(), colours.len())?;
+    *state = scanline(*state, writes, buffer, colours);
+    Ok(())
 }

@@ -1,12 +1,13 @@
 // A movable object: its position, age and motion, and what a clock does to them.
-ghost use Rattle.std.specs.Prelude.{cond, ◌||◌, ◌≡◌, pos};
+ghost use Rattle.std.specs.Prelude.{cond, ◌≡◌, pos};
 ghost use Rattle.tia.specs.Object.{reached, older, starts, size_of, compare_value, equal_slot, extra_pulse, object_written, slot_passed, pulsed_if};
-ghost use Rattle.tia.specs.Object.{strobed_if, object_moved, object_after, player_after, missile_after, ball_after};
+ghost use Rattle.tia.specs.Object.{strobed_if, object_moved, object_after, player_after, ball_after};
 
-use crate::choose::byte;
 use crate::drawing::Drawing;
-use crate::timing::Tick;
-use crate::write::{HMBL, HMCLR, HMOVE, RESBL, Write};
+use crate::timing::{Clock, Tick};
+use crate::write::{
+    HMBL, HMCLR, HMM0, HMM1, HMOVE, HMP0, HMP1, RESBL, RESM0, RESM1, RESP0, RESP1, Write,
+};
 
 // The columns of a line, and the last of them.
 const COLUMNS: u8 = 160;
@@ -20,7 +21,7 @@ const LAST_SLOT: u8 = 15;
 pub(crate) const NOT_DRAWN: u8 = 64;
 
 // P0, P1, M0, M1 or BL: its position, its age (pulses since its last start), its motion value and live flag.
-#[derive(Clone, Copy)]
+#[derive(Clone, Copy, Default)]
 pub struct Object {
     pub position: u8,
     pub age: u8,
@@ -36,6 +37,39 @@ pub struct Player {
     pub drawing: Drawing,
 }
 
+// The addresses of an object's own registers: its position strobe and its motion register.
+#[derive(Clone, Copy)]
+pub(crate) struct Addresses {
+    pub(crate) strobe: u8,
+    pub(crate) motion: u8,
+}
+
+// The addresses of the five objects.
+pub(crate) const P0: Addresses = Addresses {
+    strobe: RESP0,
+    motion: HMP0,
+};
+
+pub(crate) const P1: Addresses = Addresses {
+    strobe: RESP1,
+    motion: HMP1,
+};
+
+pub(crate) const M0: Addresses = Addresses {
+    strobe: RESM0,
+    motion: HMM0,
+};
+
+pub(crate) const M1: Addresses = Addresses {
+    strobe: RESM1,
+    motion: HMM1,
+};
+
+const BL: Addresses = Addresses {
+    strobe: RESBL,
+    motion: HMBL,
+};
+
 // An object after a clock, whether it was pulsed, and whether a copy started.
 #[derive(Clone, Copy)]
 pub(crate) struct Moved {
@@ -44,11 +78,11 @@ pub(crate) struct Moved {
     pub(crate) started: bool,
 }
 
-// The position after a visible pulse, an extra one or both: one on; without a pulse it stays.
-fn next_position(position: u8, visible: bool, extra: bool) -> u8
-    ensures { result ≡ reached (visible || extra) position }
+// The position after a clock: one on at a pulse; without one it stays.
+fn next_position(position: u8, pulse: bool) -> u8
+    ensures { result ≡ reached pulse position }
 {
-    if visible | extra {
+    if pulse {
         (position % COLUMNS + 1) % COLUMNS
     } else {
         position
@@ -60,10 +94,9 @@ fn next_age(age: u8, pulse: bool, start: bool) -> u8
     ensures { result ≡ cond start 0 (cond pulse (older age) age) }
 {
     if start {
-        return 0;
-    }
-    if pulse {
-        if age < NOT_DRAWN { age + 1 } else { NOT_DRAWN }
+        0
+    } else if pulse {
+        age.saturating_add(1).min(NOT_DRAWN)
     } else {
         age
     }
@@ -73,26 +106,26 @@ fn next_age(age: u8, pulse: bool, start: bool) -> u8
 fn start_at(copies: u8, position: u8) -> bool
     ensures { result ≡ starts copies position }
 {
-    let near = (position == 16) & ((copies == 1) | (copies == 3));
-    let middle = (position == 32) & ((copies == 2) | ((copies == 3) | (copies == 6)));
-    let far = (position == 64) & ((copies == 4) | (copies == 6));
-    (position == 0) | (near | (middle | far))
+    matches!(
+        (position, copies),
+        (0, _) | (16, 1 | 3) | (32, 2 | 3 | 6) | (64, 4 | 6)
+    )
 }
 
 // The size of a player's copies.
+#[tactic(auto, unfolding(crate::specs::Object::size_of))]
 fn size_of(copies: u8) -> u8
     ensures { result ≡ size_of copies }
 {
-    if copies == 5 {
-        return 2;
+    match copies {
+        5 => 2,
+        7 => 4,
+        _ => 1,
     }
-    if copies == 7 {
-        return 4;
-    }
-    1
 }
 
 // The slot that ends an object's motion: 8 plus its signed motion value.
+#[tactic(auto, using(crate::proofs::MotionLaws::compare_is_remainder))]
 fn compare_value(motion: u8) -> u8
     ensures { compare_value motion ≡ pos result }
 {
@@ -104,10 +137,10 @@ impl Object {
     fn written(self, hm: u8, write: Write) -> Self
         ensures { result ≡ object_written hm write self }
     {
-        let motion = write.byte_at(HMCLR, 0, self.motion);
+        let motion = write.at(HMCLR, 0, self.motion);
         Self {
-            motion: write.byte_at(hm, write.value() / 16 % 16, motion),
-            live: write.hits(HMOVE) | self.live,
+            motion: write.at(hm, write.value() / 16 % 16, motion),
+            live: write.hits(HMOVE) || self.live,
             ..self
         }
     }
@@ -123,54 +156,52 @@ impl Object {
     fn extra(self, tick: Tick) -> bool
         ensures { result ≡ extra_pulse tick self }
     {
-        tick.comparing & (self.live & !self.equal(tick))
+        tick.comparing && self.live && !self.equal(tick)
     }
 
     // Step 4: its live flag falls at the slot that ends its motion, and after the last.
-    pub(crate) fn slot(self, tick: Tick) -> Self
+    fn slot(self, tick: Tick) -> Self
         ensures { result ≡ slot_passed tick self }
     {
-        let falls = tick.comparing & (self.equal(tick) | (tick.slot == LAST_SLOT));
+        let falls = tick.comparing && (self.equal(tick) || tick.slot == LAST_SLOT);
         Self {
-            live: self.live & !falls,
+            live: self.live && !falls,
             ..self
         }
     }
 
-    // Steps 5 and 6: on a pulse, visible or extra, the position and the age rise by one; at a start the age is 0.
-    pub(crate) fn pulse(self, visible: bool, extra: bool, start: bool) -> Self
-        ensures { result ≡ pulsed_if (visible || extra) start self }
+    // Steps 5 and 6: on a pulse the position and the age rise by one; at a start the age is 0.
+    fn pulse(self, pulse: bool, start: bool) -> Self
+        ensures { result ≡ pulsed_if pulse start self }
     {
         Self {
-            position: next_position(self.position, visible, extra),
-            age: next_age(self.age, visible | extra, start),
+            position: next_position(self.position, pulse),
+            age: next_age(self.age, pulse, start),
             ..self
         }
     }
 
     // Step 7: at a strobe the position is 0.
-    pub(crate) fn strobe(self, strobe: bool) -> Self
+    fn strobe(self, strobe: bool) -> Self
         ensures { result ≡ strobed_if strobe self }
     {
         Self {
-            position: byte(strobe, 0, self.position),
+            position: if strobe { 0 } else { self.position },
             ..self
         }
     }
 
     // Steps 4 to 7 for an object after the write.
+    #[tactic(auto, unfolding(crate::specs::Object::object_moved))]
     fn moved(self, tick: Tick, strobe: bool, copies: u8) -> Moved
         ensures { result ≡ object_moved tick strobe copies self }
     {
         let visible = !tick.blank;
         let extra = self.extra(tick);
-        let start = start_at(copies, next_position(self.position, visible, extra));
-        let pulsed = visible | extra;
-        let started = pulsed & (!strobe & start);
-        let object = self
-            .slot(tick)
-            .pulse(visible, extra, started)
-            .strobe(strobe);
+        let pulsed = visible || extra;
+        let start = start_at(copies, next_position(self.position, pulsed));
+        let started = pulsed && !strobe && start;
+        let object = self.slot(tick).pulse(pulsed, started).strobe(strobe);
         Moved {
             object,
             pulsed,
@@ -178,30 +209,24 @@ impl Object {
         }
     }
 
-    // Steps 2 and 4 to 7: the object's part of a clock.
-    pub(crate) fn clocked(self, tick: Tick, strobe: u8, hm: u8, copies: u8, write: Write) -> Moved
-        ensures { result ≡ object_after tick strobe hm copies write self }
+    // Steps 2 and 4 to 7: the object's part of a clock; a missile has no other.
+    #[tactic(auto, unfolding(crate::specs::Object::object_after))]
+    pub(crate) fn clocked(self, clock: Clock, own: Addresses, copies: u8) -> Moved
+        ensures { result ≡ object_after clock.tick own.strobe own.motion copies clock.write self }
     {
-        self.written(hm, write)
-            .moved(tick, write.hits(strobe), copies)
-    }
-
-    // A missile's part of a clock.
-    pub(crate) fn missile(self, tick: Tick, strobe: u8, hm: u8, copies: u8, write: Write) -> Self
-        ensures { result ≡ missile_after tick strobe hm copies write self }
-    {
-        let moved = self.clocked(tick, strobe, hm, copies, write);
-        moved.object
+        let Clock { tick, write } = clock;
+        self.written(own.motion, write)
+            .moved(tick, write.hits(own.strobe), copies)
     }
 
     // The ball's part of a clock: its strobe also makes its age 0.
-    pub(crate) fn ball(self, tick: Tick, write: Write) -> Self
-        ensures { result ≡ ball_after tick write self }
+    #[tactic(auto, unfolding(crate::specs::Object::ball_after))]
+    pub(crate) fn ball(self, clock: Clock) -> Self
+        ensures { result ≡ ball_after clock.tick clock.write self }
     {
-        let moved = self.clocked(tick, RESBL, HMBL, 0, write);
-        let object = moved.object;
+        let object = self.clocked(clock, BL, 0).object;
         Self {
-            age: write.byte_at(RESBL, 0, object.age),
+            age: clock.write.at(RESBL, 0, object.age),
             ..object
         }
     }
@@ -209,20 +234,16 @@ impl Object {
 
 impl Player {
     // A player's part of a clock: at a start it takes its size from NUSIZ; on a pulse its drawing goes on.
-    pub(crate) fn clocked(self, tick: Tick, strobe: u8, hm: u8, copies: u8, write: Write) -> Self
-        ensures { result ≡ player_after tick strobe hm copies write self }
+    #[tactic(auto, unfolding(crate::specs::Object::player_after))]
+    pub(crate) fn clocked(self, clock: Clock, own: Addresses, copies: u8) -> Self
+        ensures { result ≡ player_after clock.tick own.strobe own.motion copies clock.write self }
     {
-        let body = self.body;
-        let moved = body.clocked(tick, strobe, hm, copies, write);
-        let object = moved.object;
-        let started = moved.started;
-        let now = size_of(copies);
-        let held = self.size;
-        let drawing = self.drawing;
+        let moved = self.body.clocked(clock, own, copies);
+        let size = size_of(copies);
         Self {
-            body: object,
-            size: byte(started, now, held),
-            drawing: drawing.after(moved.pulsed, started, object.age, held, now),
+            body: moved.object,
+            size: if moved.started { size } else { self.size },
+            drawing: self.drawing.after(moved, self.size, size),
         }
     }
 }

@@ -2,14 +2,14 @@
 ghost use Rattle.std.specs.Prelude.{◌≡◌};
 ghost use Rattle.tia.specs.Registers.{nusiz_after, graphic_after, enable_after, registers_after};
 
-use crate::choose::bit;
+use crate::bits::bit;
 use crate::playfield::Playfield;
 use crate::write::{
     ENABL, ENAM0, ENAM1, GRP0, GRP1, NUSIZ0, NUSIZ1, REFP0, REFP1, VDELBL, VDELP0, VDELP1, Write,
 };
 
 // NUSIZ: the copies of a player and its missile, and the missile's width code.
-#[derive(Clone, Copy)]
+#[derive(Clone, Copy, Default)]
 pub struct Nusiz {
     pub copies: u8,
     pub width: u8,
@@ -22,14 +22,14 @@ impl Nusiz {
     {
         let value = write.value();
         Self {
-            copies: write.byte_at(address, value % 8, self.copies),
-            width: write.byte_at(address, value / 16 % 4, self.width),
+            copies: write.at(address, value % 8, self.copies),
+            width: write.at(address, value / 16 % 4, self.width),
         }
     }
 }
 
 // A player's graphic: reflected (REFP), its new and old byte (GRP), whether the old one is shown (VDELP).
-#[derive(Clone, Copy)]
+#[derive(Clone, Copy, Default)]
 pub struct Graphic {
     pub reflected: bool,
     pub new: u8,
@@ -44,16 +44,17 @@ impl Graphic {
     {
         let value = write.value();
         Self {
-            reflected: write.flag_at(reflect, bit(3, value), self.reflected),
-            new: write.byte_at(own, value, self.new),
-            old: write.byte_at(other, self.new, self.old),
-            delayed: write.flag_at(delay, bit(0, value), self.delayed),
+            reflected: write.at(reflect, bit(3, value), self.reflected),
+            new: write.at(own, value, self.new),
+            old: write.at(other, self.new, self.old),
+            delayed: write.at(delay, bit(0, value), self.delayed),
         }
     }
 }
 
-// The ball's enable: the new and the old one (ENABL), whether the old one counts (VDELBL).
-#[derive(Clone, Copy)]
+// The ball's enable: the new and the old one (ENABL), whether the old one counts (VDELBL). It is no graphic of a flag, since a
+// graphic is reflected, too, and other addresses write its parts.
+#[derive(Clone, Copy, Default)]
 pub struct Enable {
     pub new: bool,
     pub old: bool,
@@ -67,15 +68,15 @@ impl Enable {
     {
         let value = write.value();
         Self {
-            new: write.flag_at(ENABL, bit(1, value), self.new),
-            old: write.flag_at(GRP1, self.new, self.old),
-            delayed: write.flag_at(VDELBL, bit(0, value), self.delayed),
+            new: write.at(ENABL, bit(1, value), self.new),
+            old: write.at(GRP1, self.new, self.old),
+            delayed: write.at(VDELBL, bit(0, value), self.delayed),
         }
     }
 }
 
 // The registers that draw.
-#[derive(Clone, Copy)]
+#[derive(Clone, Copy, Default)]
 pub struct Registers {
     pub nusiz0: Nusiz,
     pub nusiz1: Nusiz,
@@ -89,6 +90,7 @@ pub struct Registers {
 
 impl Registers {
     // The registers after a write.
+    #[tactic(auto, unfolding(crate::specs::Registers::registers_after))]
     pub(crate) fn written(self, write: Write) -> Self
         ensures { result ≡ registers_after write self }
     {
@@ -99,8 +101,8 @@ impl Registers {
             playfield: self.playfield.written(write),
             graphic0: self.graphic0.written(REFP0, GRP0, GRP1, VDELP0, write),
             graphic1: self.graphic1.written(REFP1, GRP1, GRP0, VDELP1, write),
-            enam0: write.flag_at(ENAM0, enable, self.enam0),
-            enam1: write.flag_at(ENAM1, enable, self.enam1),
+            enam0: write.at(ENAM0, enable, self.enam0),
+            enam1: write.at(ENAM1, enable, self.enam1),
             enabl: self.enabl.written(write),
         }
     }

@@ -1,14 +1,13 @@
 // The chip's state, its start, and its check.
 ghost use Rattle.std.specs.Prelude.{◌≡◌};
 ghost use Rattle.tia.specs.State.{object_in_range, player_in_range, objects_in_range, any_live, timing_in_range, nusiz_in_range, registers_in_range};
-ghost use Rattle.tia.specs.State.{bad_state, start_objects, start_registers, start_state};
+ghost use Rattle.tia.specs.State.{bad_state, start_state};
 
 use crate::colours::Colours;
 use crate::drawing::{Drawing, NO_PIXEL};
 use crate::latches::Latches;
 use crate::object::{LAST_COLUMN, NOT_DRAWN, Object, Player};
-use crate::playfield::Playfield;
-use crate::registers::{Enable, Graphic, Nusiz, Registers};
+use crate::registers::{Nusiz, Registers};
 use crate::timing::{LAST_CLOCK, NO_MOTION, Timing};
 
 // The five movable objects.
@@ -21,7 +20,8 @@ pub struct Objects {
     pub bl: Object,
 }
 
-// The whole state of the chip.
+// The whole state of the chip. Slot 16, age 64 and pixel 8, where nothing goes on, and sizes, copies and width codes are numbers in bytes
+// that a caller may fill with any number: `bad_state` says which are refused.
 #[derive(Clone, Copy)]
 pub struct State {
     pub timing: Timing,
@@ -32,96 +32,46 @@ pub struct State {
 }
 
 impl State {
-    // The start state.
+    // The start state: no motion under way, nothing drawn, sizes 1; all else is zero or false.
+    #[tactic(auto, unfolding(crate::specs::State::start_state))]
     pub fn start() -> Self
         ensures { result ≡ start_state }
     {
+        let object = Object {
+            age: NOT_DRAWN,
+            ..Object::default()
+        };
+        let player = Player {
+            body: object,
+            size: 1,
+            drawing: Drawing::none(),
+        };
         Self {
             timing: Timing {
-                h: 0,
                 slot: NO_MOTION,
-                late: false,
+                ..Timing::default()
             },
-            objects: start_objects(),
-            registers: start_registers(),
-            colours: Colours {
-                colup0: 0,
-                colup1: 0,
-                colupf: 0,
-                colubk: 0,
+            objects: Objects {
+                p0: player,
+                p1: player,
+                m0: object,
+                m1: object,
+                bl: object,
             },
-            latches: Latches::none(),
+            registers: Registers::default(),
+            colours: Colours::default(),
+            latches: Latches::default(),
         }
     }
 
     // Whether a field is outside its range, or a live flag is set with no motion under way. Every byte is a colour.
+    // `&` and `|`: with `&&` and `||` here a line takes 268,344 instructions in place of 210,307, more than docs/SPEED.md allows.
+    #[tactic(auto, using(crate::proofs::StateLaws::colour_bytes), unfolding(crate::specs::State::bad_state, crate::specs::State::in_range, crate::specs::State::live_at_rest))]
     pub(crate) fn is_bad(self) -> bool
         ensures { result ≡ bad_state self }
     {
-        let timing = self.timing;
-        let objects = self.objects;
-        let registers = self.registers;
-        let in_range = timing.in_range() & (objects.in_range() & registers.in_range());
-        !in_range | ((timing.slot == NO_MOTION) & objects.any_live())
-    }
-}
-
-// The five objects of the start state.
-fn start_objects() -> Objects
-    ensures { result ≡ start_objects }
-{
-    let object = Object {
-        position: 0,
-        age: NOT_DRAWN,
-        motion: 0,
-        live: false,
-    };
-    let player = Player {
-        body: object,
-        size: 1,
-        drawing: Drawing::none(),
-    };
-    Objects {
-        p0: player,
-        p1: player,
-        m0: object,
-        m1: object,
-        bl: object,
-    }
-}
-
-// The registers of the start state.
-fn start_registers() -> Registers
-    ensures { result ≡ start_registers }
-{
-    let nusiz = Nusiz {
-        copies: 0,
-        width: 0,
-    };
-    let graphic = Graphic {
-        reflected: false,
-        new: 0,
-        old: 0,
-        delayed: false,
-    };
-    Registers {
-        nusiz0: nusiz,
-        nusiz1: nusiz,
-        playfield: Playfield {
-            ctrlpf: 0,
-            pf0: 0,
-            pf1: 0,
-            pf2: 0,
-        },
-        graphic0: graphic,
-        graphic1: graphic,
-        enam0: false,
-        enam1: false,
-        enabl: Enable {
-            new: false,
-            old: false,
-            delayed: false,
-        },
+        let in_range = self.timing.in_range() & self.objects.in_range() & self.registers.in_range();
+        !in_range | ((self.timing.slot == NO_MOTION) & self.objects.any_live())
     }
 }
 
@@ -130,9 +80,7 @@ impl Timing {
     fn in_range(self) -> bool
         ensures { result ≡ timing_in_range self }
     {
-        let h = self.h;
-        let slot = self.slot;
-        (h <= LAST_CLOCK) & (slot <= NO_MOTION)
+        self.h <= LAST_CLOCK && self.slot <= NO_MOTION
     }
 }
 
@@ -141,73 +89,59 @@ impl Object {
     fn in_range(self) -> bool
         ensures { result ≡ object_in_range self }
     {
-        let position = self.position;
-        let age = self.age;
-        let motion = self.motion;
-        (position <= LAST_COLUMN) & ((age <= NOT_DRAWN) & (motion <= 15))
+        self.position <= LAST_COLUMN && self.age <= NOT_DRAWN && self.motion <= 15
     }
 }
 
 impl Player {
     // Whether the object is in range, the size 1, 2 or 4, the pixel at most 8 and its clocks shown at most 4.
+    #[tactic(auto, unfolding(crate::specs::State::player_in_range))]
     fn in_range(self) -> bool
         ensures { result ≡ player_in_range self }
     {
-        let body = self.body;
-        let size = self.size;
-        let pixel = self.drawing.pixel;
-        let shown = self.drawing.shown;
-        let sized = (size == 1) | ((size == 2) | (size == 4));
-        body.in_range() & (sized & ((pixel <= NO_PIXEL) & (shown <= 4)))
+        let sized = matches!(self.size, 1 | 2 | 4);
+        let drawn = self.drawing.pixel <= NO_PIXEL && self.drawing.shown <= 4;
+        self.body.in_range() && sized && drawn
     }
 }
 
 impl Objects {
     // Whether the five objects are in range.
+    #[tactic(auto, unfolding(crate::specs::State::objects_in_range))]
     fn in_range(self) -> bool
         ensures { result ≡ objects_in_range self }
     {
-        let p0 = self.p0;
-        let p1 = self.p1;
-        let m0 = self.m0;
-        let m1 = self.m1;
-        let bl = self.bl;
-        p0.in_range() & (p1.in_range() & (m0.in_range() & (m1.in_range() & bl.in_range())))
+        self.p0.in_range()
+            && self.p1.in_range()
+            && self.m0.in_range()
+            && self.m1.in_range()
+            && self.bl.in_range()
     }
 
     // Whether a live flag is set.
     fn any_live(self) -> bool
         ensures { result ≡ any_live self }
     {
-        let p0 = self.p0.body;
-        let p1 = self.p1.body;
-        let m0 = self.m0;
-        let m1 = self.m1;
-        let bl = self.bl;
-        p0.live | (p1.live | (m0.live | (m1.live | bl.live)))
+        self.p0.body.live || self.p1.body.live || self.m0.live || self.m1.live || self.bl.live
     }
 }
 
 impl Registers {
     // Whether copies, width codes and PF0 are in their ranges; the other numbers are bytes.
+    #[tactic(auto, using(crate::proofs::StateLaws::registers_by_bytes), unfolding(crate::specs::State::registers_in_range))]
     fn in_range(self) -> bool
         ensures { result ≡ registers_in_range self }
     {
-        let nusiz0 = self.nusiz0;
-        let nusiz1 = self.nusiz1;
-        let playfield = self.playfield;
-        let pf0 = playfield.pf0;
-        nusiz0.in_range() & (nusiz1.in_range() & (pf0 <= 15))
+        self.nusiz0.in_range() && self.nusiz1.in_range() && self.playfield.pf0 <= 15
     }
 }
 
 impl Nusiz {
-    // Whether copies and width code are in their ranges.
+    // Whether copies and width code are in their ranges. (Timing has a test of the same shape: one function of two values and two limits
+    // would be no plainer.)
     fn in_range(self) -> bool
         ensures { result ≡ nusiz_in_range self }
     {
-        let copies = self.copies;
-        let width = self.width;
-        (copies <= 7) & (width <= 3)
+        self.copies <= 7 && self.width <= 3
     }
 }

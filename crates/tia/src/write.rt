@@ -2,9 +2,7 @@
 ghost use Rattle.std.specs.Prelude.{cond, ◌≡◌};
 ghost use Rattle.tia.specs.Write.{hits, byte_of, known, unknown};
 
-use crate::choose;
-
-// The addresses of the registers.
+// The addresses of the registers. They are numbers, since a write may name any byte, and the call that takes it refuses the unknown.
 pub(crate) const NUSIZ0: u8 = 0x04;
 
 pub(crate) const NUSIZ1: u8 = 0x05;
@@ -71,7 +69,8 @@ pub(crate) const HMCLR: u8 = 0x2B;
 
 pub(crate) const CXCLR: u8 = 0x2C;
 
-// What is written on a clock: nothing, or a value to a register's address.
+// What is written on a clock: nothing, or a value to a register's address. It is no `Option`: its five methods
+// and the definitions `hits`, `byte_of` and `clock_answer` take it, and would be no plainer over a struct in one.
 #[derive(Clone, Copy)]
 pub enum Write {
     Nothing,
@@ -85,7 +84,7 @@ impl Write {
     {
         match self {
             Write::Nothing => false,
-            Write::Register { address, value: _ } => address == register,
+            Write::Register { address, .. } => address == register,
         }
     }
 
@@ -95,39 +94,33 @@ impl Write {
     {
         match self {
             Write::Nothing => 0,
-            Write::Register { address: _, value } => value,
+            Write::Register { value, .. } => value,
         }
     }
 
-    // A byte after the write: the new one if this address is written.
-    pub(crate) fn byte_at(self, register: u8, new: u8, old: u8) -> u8
+    // A value after the write: the new one if this address is written.
+    pub(crate) fn at<T: Copy>(self, register: u8, new: T, old: T) -> T
         ensures { result ≡ cond (hits self register) new old }
     {
-        choose::byte(self.hits(register), new, old)
-    }
-
-    // A flag after the write: the new one if this address is written.
-    pub(crate) fn flag_at(self, register: u8, new: bool, old: bool) -> bool
-        ensures { result ≡ cond (hits self register) new old }
-    {
-        choose::flag(self.hits(register), new, old)
+        if self.hits(register) { new } else { old }
     }
 
     // Whether an address is written that no register has.
+    #[tactic(auto, unfolding(crate::specs::Write::unknown))]
     pub(crate) fn unknown(self) -> bool
         ensures { result ≡ unknown self }
     {
         match self {
             Write::Nothing => false,
-            Write::Register { address, value: _ } => !is_known(address),
+            Write::Register { address, .. } => !is_known(address),
         }
     }
 }
 
 // Whether a register has this address.
+#[tactic(auto, using(crate::proofs::WriteLaws::known_where))]
 pub(crate) fn is_known(address: u8) -> bool
     ensures { result ≡ known address }
 {
-    ((NUSIZ0 <= address) & (address <= RESBL))
-        | (((GRP0 <= address) & (address <= VDELBL)) | ((HMOVE <= address) & (address <= CXCLR)))
+    matches!(address, NUSIZ0..=RESBL | GRP0..=VDELBL | HMOVE..=CXCLR)
 }

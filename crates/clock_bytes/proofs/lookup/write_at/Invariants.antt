@@ -1,11 +1,11 @@
 -- `write_at` meets its contract. The loop's invariant: what is left of the list has the write of the whole.
-use Prim.Native.Nat.{◌-◌}
+use mathlib.Core.Path.{◌≡◌}
 use lib.ListN.{length}
-use Rattle.clock_bytes.proofs.ShowLaws.{Searched}
+use Rattle.tia.specs.WriteList.{records_of, write_at}
 use Rattle.clock_bytes.proofs.lookup.write_at.Given as goal
 
-abbrev pub invariant-loop-at : goal.invariant-loop-at
-invariant-loop-at l = Searched l.writes l.clock l.at
+abbrev pub invariant-loop-rest : goal.invariant-loop-rest
+invariant-loop-rest l = write_at (records_of l.rest) l.clock ≡ write_at (records_of l.writes) l.clock
 
-abbrev pub decreases-loop-at : goal.decreases-loop-at
-decreases-loop-at l = length l.writes - l.at
+abbrev pub decreases-loop-rest : goal.decreases-loop-rest
+decreases-loop-rest l = length l.rest

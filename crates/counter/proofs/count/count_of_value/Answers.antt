@@ -1,11 +1,18 @@
--- `count_of_value` meets its contract. The loop's invariant: no count passed has the value.
-use mathlib.Core.Path.{◌∙◌, sym}
-use native.Mathlib.Omega.{arith}
-use Rattle.counter.proofs.AnswerLaws.{count_found, count_missing}
+-- `count_of_value` meets its contract: it finds the first count whose entry of the card is the value.
+use mathlib.Core.Path.{◌≡◌, ◌∙◌, ap}
+use lib.ListN.{get_or}
+use Rattle.std.proofs.Common.{rules}
+use Rattle.std.proofs.lemmas.Iterator.{first_from_Range}
+use Rattle.counter.specs.Answers.{found_answer}
+use Rattle.counter.specs.Count.{card}
+use Rattle.counter.proofs.AnswerLaws.{first_found}
 use Rattle.counter.proofs.count.count_of_value.Goals as goal
 
-pub returns-then-printed-value : goal.returns-then-printed-value
-returns-then-printed-value c = sym (count_found _ _ (omega arith) (sym c.printed.ensures ∙ c.if-printed-value.true))
-
 pub returns : goal.returns
-returns c = sym (count_missing _ (λ n h. c.loop-count.invariant.1 n (omega arith)))
+unfolding card
+returns c =
+    ap found_answer c.ok_or.ensures.value
+    ∙ first_found c.args.value c.find.result
+    (first_from_Range _ _ _ c.find.result
+    (λ n. get_or card n 0 ≡ c.args.value) (λ n. get_or card n 0 ≡ c.args.value → ⊥)
+    c.find.ensures.ran (λ x q k. search rules) (λ x q k. search rules))
