@@ -4,14 +4,14 @@ import random
 import re
 from dataclasses import dataclass
 
-FUNCTION = re.compile(r"^( *)(?:pub(?:\(crate\))? )?fn (\w+)\(([^)]*)\)")
-OWNER = re.compile(r"^impl (\w+) \{")
+FUNCTION = re.compile(r"^( *)(?:pub(?:\(crate\))? )?fn (\w+)(?:<[^>]*>)?\(")
+OWNER = re.compile(r"^impl (?:\w+ for )?(\w+) \{")
 CONSTANT = re.compile(r"^(?:pub(?:\(crate\))? )?const (\w+): (\w+) = (\w+);")
 TABLE = re.compile(r"^(?:pub(?:\(crate\))? )?const (\w+): \[u8; \w+\] = \[\n(.*?)^\];", re.M | re.S)
 ENTRY = re.compile(r"\b0b([01]+),")
 FIELD = re.compile(r"^    (?:pub(?:\(crate\))? )?(\w+): ([\w\[\]; ]+),$")
-PARAMETER = re.compile(r"(\w+): (u8|u32|usize|bool)\b")
-TOKEN = re.compile(r"0x[0-9A-Fa-f]+|\d+|\w+|<=|>=|==|!=|<<|>>|=>|->|\+=|\.\.|::|[-+*/%&|!<>.]")
+PARAMETER = re.compile(r"(\w+): (u8\b|u32\b|usize\b|bool\b|&(?:mut )?\[u8\])")
+TOKEN = re.compile(r"0x[0-9A-Fa-f]+|\d+|\w+|<=|>=|==|!=|<<|>>|=>|->|\+=|&&|\|\||\.\.=|\.\.|::|[-+*/%&|!<>.]")
 # What a file takes from another of its crate.
 IMPORTS = re.compile(r"^use crate::\w+::(\w+|\{[^}]*\});", re.M)
 # A comparison in brackets, without further brackets inside.
@@ -21,7 +21,7 @@ BRANCH = re.compile(r"\bif ([^{]+) \{")
 
 OPERATORS = {
     "<": "<=", "<=": "<", ">": ">=", ">=": ">", "==": "!=", "!=": "==",
-    "+": "-", "-": "+", "*": "+", "/": "*", "%": "/", "&": "|", "|": "&", ">>": "<<",
+    "+": "-", "-": "+", "*": "+", "/": "*", "%": "/", "&": "|", "|": "&", "&&": "||", "||": "&&", ">>": "<<",
     "true": "false", "false": "true",
 }  # fmt: skip
 
@@ -71,14 +71,14 @@ def bodies(file, text):
         indent = head[1]
         first = i + 1
         if not line.rstrip().endswith("{"):
-            while lines[first].rstrip("\n") != indent + "{":
+            while lines[first].rstrip("\n") != indent + "{" and not re.match(rf"{indent}\).* \{{$", lines[first]):
                 first += 1
             first += 1
         last = first
         while lines[last].rstrip("\n") != indent + "}":
             last += 1
         name = f"{owner}{head[2]}"
-        found.append(Body(file, name, starts[first], starts[last], dict(PARAMETER.findall(head[3]))))
+        found.append(Body(file, name, starts[first], starts[last], dict(PARAMETER.findall("".join(lines[i:first])))))
     return found
 
 
@@ -145,10 +145,12 @@ def replacements(token, before, after, body, siblings, others):
 
 
 def of_parameter(name, parameters):
-    """What a parameter can become: another of its type; a condition also true or false."""
+    """What a parameter can become: another of its type; a condition also true or false, a number without another also 0."""
     kind = parameters[name]
     others = [("operand", other) for other, same in parameters.items() if same == kind and other != name]
-    return others + ([("dropped condition", "true"), ("dropped condition", "false")] if kind == "bool" else [])
+    if kind == "bool":
+        return others + [("dropped condition", "true"), ("dropped condition", "false")]
+    return others or ([] if kind.startswith("&") else [("constant", "0")])
 
 
 def of_body(body, text, siblings, table):
