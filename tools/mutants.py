@@ -16,6 +16,8 @@ TOKEN = re.compile(r"0x[0-9A-Fa-f]+|\d+|\w+|<=|>=|==|!=|<<|>>|=>|->|\+=|&&|\|\||
 IMPORTS = re.compile(r"^use crate::\w+::(\w+|\{[^}]*\});", re.M)
 # A comparison in brackets, without further brackets inside.
 CONDITION = re.compile(r"\((?!\()[^()]*(?:==|!=| <= | >= | < | > )[^()]*\)")
+# A comment to the end of its row.
+COMMENT = re.compile(r"//[^\n]*")
 # What an `if` asks.
 BRANCH = re.compile(r"\bif ([^{]+) \{")
 
@@ -154,8 +156,9 @@ def of_parameter(name, parameters):
 
 
 def of_body(body, text, siblings, table):
-    """Every mutant of a function."""
+    """Every mutant of a function. Its comments are left alone."""
     made = []
+    text = COMMENT.sub(lambda comment: " " * len(comment[0]), text)
 
     def add(kind, start, end, new):
         line = text.count("\n", 0, start) + 1

@@ -30,6 +30,7 @@ impl Pair {
         ensures { result ≡ right_of 5 < 6 }
     {
         if open {
+            // 7 is no number of the code.
             return !self.flag;
         }
         (least < self.one) & (self.one + 1 == LEAST)
@@ -66,6 +67,9 @@ class Mutants(unittest.TestCase):
 
     def test_a_contract_is_left_alone(self):
         self.assertFalse([row for _, row in changed() if "ensures" in row or "fn right" in row])
+
+    def test_a_comment_is_left_alone(self):
+        self.assertFalse([row for _, row in changed() if "8 is no number" in row or "6 is no number" in row])
 
     def test_constants(self):
         self.assertEqual(changed("const LEAST"), {("constant", "const LEAST: u8 = 5;")})
