@@ -17,8 +17,9 @@ use Rattle.tia.specs.declared.write.Write.{Write}
 use Rattle.tia.specs.declared.write.Write.TheVariants.{Nothing, Register}
 use Rattle.tia.specs.State.{start_state}
 use Rattle.tia.specs.Line.{Buffers, line_rooms}
-use Rattle.tia.specs.WriteList.{timed, records_of, write_at}
+use Rattle.tia.specs.WriteList.{records_of, write_at}
 use Rattle.tia.specs.Answers.{ClockAnswer, clock_numbers, clock_answer}
+use Rattle.tia.proofs.CursorLaws.{records_left, no_records}
 use Rattle.tia.proofs.RisingLaws.{writes_here, writes_later}
 use Rattle.tape.specs.Reading.{longest, stretch_at}
 use Rattle.replay.specs.Verdict.{Played, PlayAnswer, verdict_of, played_answer}
@@ -32,32 +33,20 @@ use Rattle.clock_bytes.specs.ClockBytes.{tape_records, input_records, record_at}
 
 -- The search for a clock's write in what is left of a list: its first record has it, or the bytes after that record decide, or
 -- fewer than three bytes hold no record.
-first_record :
-    (ws : List ℕ) → 3 ≤ length ws →
-    records_of ws ≡ timed (get_or ws 0 0) (get_or ws 1 0) (get_or ws 2 0) ∷ records_of (drop 3 ws)
-unfolding records_of
-first_record [] h = absurd (omega arith)
-first_record (c ∷ []) h = absurd (omega arith)
-first_record (c ∷ a ∷ []) h = absurd (omega arith)
-first_record (c ∷ a ∷ v ∷ ws) h = refl
-
 pub search_finds :
     (ws : List ℕ) (clock : ℕ) → 3 ≤ length ws → get_or ws 0 0 ≡ clock →
     Register (get_or ws 1 0) (get_or ws 2 0) ≡ write_at (records_of ws) clock
-search_finds ws clock h e = rw (first_record ws h) (sym (writes_here _ _ clock e))
+search_finds ws clock h e = rw (records_left ws h) (sym (writes_here _ _ clock e))
 
 pub search_goes_on :
     (ws : List ℕ) (clock : ℕ) → 3 ≤ length ws → (get_or ws 0 0 ≡ clock → ⊥) →
     write_at (records_of (take (length ws - 3) (drop 3 ws))) clock ≡ write_at (records_of ws) clock
 search_goes_on ws clock h ne =
-    rw (take_all (length ws - 3) (drop 3 ws) (rw (length-drop 3 ws) (omega arith)), first_record ws h) (sym (writes_later _ _ clock ne))
+    rw (take_all (length ws - 3) (drop 3 ws) (rw (length-drop 3 ws) (omega arith)), records_left ws h) (sym (writes_later _ _ clock ne))
 
 pub search_ends : (ws : List ℕ) (clock : ℕ) → length ws < 3 → Nothing ≡ write_at (records_of ws) clock
-unfolding records_of write_at
-search_ends [] clock h = refl
-search_ends (c ∷ []) clock h = refl
-search_ends (c ∷ a ∷ []) clock h = refl
-search_ends (c ∷ a ∷ v ∷ ws) clock h = absurd (omega arith)
+unfolding write_at
+search_ends ws clock h = rw (no_records ws h) refl
 
 -- The clocks of a line in turn: the state before clock h, and its record.
 unfoldable pub state_before : (ℕ → Write) → State → ℕ → State
