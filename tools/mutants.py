@@ -5,8 +5,10 @@ import re
 from dataclasses import dataclass
 
 FUNCTION = re.compile(r"^( *)(?:pub(?:\(crate\))? )?fn (\w+)(?:<[^>]*>)?\(")
-OWNER = re.compile(r"^impl (?:\w+ for )?(\w+) \{")
+OWNER = re.compile(r"^impl (?:\w+(?:<\w+>)? for )?(\w+) \{")
 CONSTANT = re.compile(r"^(?:pub(?:\(crate\))? )?const (\w+): (\w+) = (\w+);")
+# A case of an enum with its number.
+CASE = re.compile(r"^    (\w+) = (\d+),$", re.M)
 TABLE = re.compile(r"^(?:pub(?:\(crate\))? )?const (\w+): \[u8; \w+\] = \[\n(.*?)^\];", re.M | re.S)
 ENTRY = re.compile(r"\b0b([01]+),")
 FIELD = re.compile(r"^    (?:pub(?:\(crate\))? )?(\w+): ([\w\[\]; ]+),$")
@@ -188,6 +190,16 @@ def of_constants(table):
     ]
 
 
+def of_cases(texts):
+    """A mutant of each numbered case of an enum: a number over those of all cases of its file."""
+    return [
+        Mutant(file, f"case {case[1]}", text.count("\n", 0, case.start()) + 1, "number", *case.span(2), case[2], over)
+        for file, text in texts.items()
+        for over in [str(max((int(case[2]) for case in CASE.finditer(text)), default=0) + 1)]
+        for case in CASE.finditer(text)
+    ]
+
+
 def of_tables(texts):
     """The mutants of each table of bytes: two bits of an entry exchanged."""
     return [
@@ -219,14 +231,14 @@ def in_turn(made, seed):
 
 
 def of_files(texts, seed):
-    """The mutants of every function, constant and table of some files (name to text): function to its mutants in turn."""
+    """The mutants of every function, constant, numbered case and table of some files (name to text): function to its mutants in turn."""
     siblings, table = fields(texts), constants(texts)
     found = {}
     for file, text in texts.items():
         for body in bodies(file, text):
             made = of_body(body, text, siblings, table)
             found.setdefault((file, body.name), []).extend(made)
-    for mutant in of_constants(table):
+    for mutant in of_constants(table) + of_cases(texts):
         found[(mutant.file, mutant.function)] = [mutant]
     for mutant in of_tables(texts):
         found.setdefault((mutant.file, mutant.function), []).append(mutant)

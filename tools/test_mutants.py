@@ -24,6 +24,15 @@ pub struct Pair {
     pub two: u8,
     pub flag: bool,
 }
+pub enum Why {
+    Low = 1,
+    High = 2,
+}
+impl From<Why> for Pair {
+    fn from(why: Why) -> Pair {
+        Pair { one: 0, two: 9, flag: true }
+    }
+}
 impl Pair {
     // Whether it is right.
     pub(crate) fn right(self, least: u8, most: u8, open: bool) -> bool
@@ -73,6 +82,13 @@ class Mutants(unittest.TestCase):
 
     def test_constants(self):
         self.assertEqual(changed("const LEAST"), {("constant", "const LEAST: u8 = 5;")})
+
+    def test_numbered_cases(self):
+        self.assertEqual(changed("case Low"), {("number", "Low = 3,")})
+        self.assertEqual(changed("case High"), {("number", "High = 3,")})
+
+    def test_an_impl_of_a_conversion(self):
+        self.assertIn(("constant", "Pair { one: 1, two: 9, flag: true }"), changed("Pair::from"))
 
     def test_tables(self):
         expected = {("entry", row) for row in ("0b010, 0b011,", "0b100, 0b101,", "0b011,")}

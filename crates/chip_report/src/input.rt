@@ -1,12 +1,8 @@
 // The case file, read from its start to its end.
-use arrayvec::ArrayVec;
 use std::io::Read;
 
 // The longest list or tape that a case may have.
-const LONGEST: usize = 4096;
-
-// A write list or a tape.
-pub(crate) type List = ArrayVec<u8, LONGEST>;
+pub(crate) const LONGEST: usize = 4096;
 
 // The case file.
 #[derive(Drop)]
@@ -39,11 +35,12 @@ impl<R: Read> Input<R> {
         bytes
     }
 
-    // The next bytes as a list or a tape of this length, or of the longest; zeros stand for those that the input no longer has.
-    pub(crate) fn list(&mut self, length: u16) -> List {
-        let mut list = List::from([0; LONGEST]);
-        list.truncate(length.into());
-        self.fill(&mut list);
+    // The next bytes as a list or a tape of this length, or of the longest, in a room that is lent; zeros stand for those that the input
+    // no longer has.
+    pub(crate) fn list<'a>(&mut self, length: u16, room: &'a mut [u8; LONGEST]) -> &'a [u8] {
+        let list = &mut room[..usize::from(length).min(LONGEST)];
+        list.fill(0);
+        self.fill(list);
         list
     }
 }

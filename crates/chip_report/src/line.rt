@@ -2,7 +2,7 @@
 use crate::buffers::Buffers;
 use crate::case::Case;
 use crate::digest::Digest;
-use crate::input::{Input, List};
+use crate::input::{Input, LONGEST};
 use crate::numbers::Numbers;
 use refusal::Refusal;
 use std::fmt;
@@ -11,26 +11,24 @@ use tia::State;
 
 // A line call: its write list, and the buffers before it.
 #[derive(Drop)]
-pub(crate) struct LineCall {
-    pub(crate) list: List,
+pub(crate) struct LineCall<'a> {
+    pub(crate) list: &'a [u8],
     pub(crate) buffers: Buffers,
 }
 
-impl LineCall {
-    // The call of four bytes: the lengths of the two buffers and the length of the list, which follows in the input.
-    pub(crate) fn read(lengths: [u8; 4], first: u8, input: &mut Input<impl Read>) -> LineCall {
+impl<'a> LineCall<'a> {
+    // The call of four bytes: the lengths of the two buffers and the length of the list, which follows in the input and goes into a room
+    // that is lent.
+    pub(crate) fn read(
+        lengths: [u8; 4],
+        first: u8,
+        input: &mut Input<impl Read>,
+        room: &'a mut [u8; LONGEST],
+    ) -> LineCall<'a> {
         let [length, colours_length, high, low] = lengths;
         LineCall {
-            list: input.list(u16::from_be_bytes([high, low])),
+            list: input.list(u16::from_be_bytes([high, low]), room),
             buffers: Buffers::rising(first, length, colours_length),
-        }
-    }
-
-    // A call without writes, with buffers as long as a line.
-    pub(crate) fn quiet(first: u8) -> LineCall {
-        LineCall {
-            list: List::new(),
-            buffers: Buffers::rising(first, 160, 160),
         }
     }
 
@@ -38,7 +36,7 @@ impl LineCall {
     pub(crate) fn make(&mut self, state: &mut State) -> Numbers<2> {
         let answer = tia::line(
             state,
-            &self.list,
+            self.list,
             &mut self.buffers.bytes,
             &mut self.buffers.colours,
         );
@@ -74,7 +72,8 @@ pub(crate) struct LineAnswer {
 // The answer to a line call.
 pub(crate) fn answer(case: &Case, input: &mut Input<impl Read>) -> LineAnswer {
     let mut state = case.state;
-    let mut call = LineCall::read(case.more, case.first(), input);
+    let mut room = [0; LONGEST];
+    let mut call = LineCall::read(case.more, case.first(), input, &mut room);
     let line = call.make(&mut state);
     LineAnswer {
         line,

@@ -2,7 +2,7 @@
 use crate::buffers::Buffers;
 use crate::case::Case;
 use crate::digest::Digest;
-use crate::input::Input;
+use crate::input::{Input, LONGEST};
 use refusal::Fault;
 use std::fmt;
 use std::io::Read;
@@ -60,20 +60,21 @@ pub(crate) struct TapeAnswer {
 // The answer to a line of a tape. The place's end, the tape's length and the tape follow the record.
 pub(crate) fn answer(case: &Case, input: &mut Input<impl Read>) -> TapeAnswer {
     let (place, length) = place_and_length(case, input);
-    let tape = input.list(length);
+    let mut room = [0; LONGEST];
+    let tape = input.list(length, &mut room);
     let mut state = case.state;
-    let [room, colours_room, ..] = case.more;
-    let mut buffers = Buffers::rising(case.first(), room, colours_room);
+    let [buffer_length, colours_length, ..] = case.more;
+    let mut buffers = Buffers::rising(case.first(), buffer_length, colours_length);
     let played = replay::play_line(
         &mut state,
-        &tape,
+        tape,
         place,
         &mut buffers.bytes,
         &mut buffers.colours,
     );
     TapeAnswer {
-        reading: Reading(tape::read_at(&tape, place)),
-        stretch: Digest::default().with(tape::stretch_at(&tape, place)),
+        reading: Reading(tape::read_at(tape, place)),
+        stretch: Digest::default().with(tape::stretch_at(tape, place)),
         playing: Playing(played),
         state: Digest::default().with_state(state),
         buffers,

@@ -11,7 +11,7 @@ use std::marker::PhantomData;
 #[derive(Clone, Copy)]
 pub struct Counter<K> {
     pub value: u8,
-    of: PhantomData<K>,
+    pub of: PhantomData<K>,
 }
 
 impl<K: CounterKind> Counter<K> {

@@ -23,10 +23,9 @@ abbrev pub last_filled : (start : Buffers) → List PlayedLine → Buffers
 last_filled start [] = start
 last_filled start (l ∷ ls) = last_filled l.filled ls
 
--- Before the line at a place: those before it have been shown, fewer than the place, and the buffers hold the last of them.
-pub record Shown (tape : List ℕ) (s : State) (place : ℕ) (held : Buffers) : Type 0 where
+-- Before the line at a place: so many lines have been shown, fewer than the place, and the buffers hold the last of them.
+pub record Shown (tape : List ℕ) (count : ℕ) (s : State) (place : ℕ) (held : Buffers) : Type 0 where
   pub start : Buffers
-  pub count : ℕ
   pub shown : List PlayedLine
   pub fewer : count < place
   pub within : (place ≤ suc (length tape)) × (length tape ≤ longest)
@@ -34,11 +33,10 @@ pub record Shown (tape : List ℕ) (s : State) (place : ℕ) (held : Buffers) : 
   pub last : held ≡ last_filled start shown
 
 -- Before the first.
-pub shown_none : (tape : List ℕ) (held : Buffers) → length tape ≤ longest → Shown tape start_state 1 held
+pub shown_none : (tape : List ℕ) (held : Buffers) → length tape ≤ longest → Shown tape 0 start_state 1 held
 shown_none tape held short =
     record {
       start = held;
-      count = 0;
       shown = [];
       fewer = omega arith;
       within = (omega arith, short);
@@ -73,18 +71,19 @@ module _
       (omega arith, line.inside)
 
   -- After it.
-  pub shown_more : length held.objects ≡ 160 → length held.colours ≡ 160 → Shown tape s place held → Shown tape left next after
-  shown_more room colours before =
+  pub shown_more :
+      (count : ℕ) → length held.objects ≡ 160 → length held.colours ≡ 160 → Shown tape count s place held →
+      Shown tape (count + 1) left next after
+  shown_more count room colours before =
       let line = line_from s tape place in
-      let more : before.count < enough = omega (arith, before.fewer, before.within.0, before.within.1) in
+      let more : count < enough = omega (arith, before.fewer, before.within.0, before.within.1) in
       record {
         start = before.start;
-        count = before.count + 1;
         shown = before.shown ++ (line ∷ []);
         fewer = omega (arith, before.fewer, place_rises.0);
         within = (omega (arith, place_rises.1), before.within.1);
         follows =
             rw (ap (λ (a : PlayAnswer). a.state) answered, room, colours)
-            (followed_more tape before.shown before.count s place next more before.follows (rw (room, colours) at said));
+            (followed_more tape before.shown count s place next more before.follows (rw (room, colours) at said));
         last = played_line_lem ∙ sym (last_of_more before.start before.shown line);
       }

@@ -30,7 +30,8 @@ fn emit(
 }
 
 // Plays the lines of a tape from the start state and writes both of each, up to the tape's end or a line that is refused. (A loop of
-// its own, as in `clock_bytes`: a function that is handed what to do with a line would require it of every line that may come.)
+// its own, as in `clock_bytes`: a function that is handed what to do with a line would require it of every line that may come. The
+// range is longer than any tape has lines; its number counts the lines written, so that a turn after which the loop goes on is one line.)
 fn show_lines(rt: &impl Print, tape: &[u8]) -> io::Result<()>
     requires { length tape.now ≤ longest }
 {
@@ -38,15 +39,16 @@ fn show_lines(rt: &impl Print, tape: &[u8]) -> io::Result<()>
     let mut colours = [0u8; 160];
     let mut state = State::start();
     let mut place = tape::FIRST_PLACE;
-    loop {
+    for line in 0..u32::MAX {
         let before = state;
         let Ok(Some(next)) = replay::play_line(&mut state, tape, place, &mut bytes, &mut colours)
         else {
-            return Ok(());
+            break;
         };
         emit(rt, &bytes, &colours, before, tape, place)?;
         place = next;
     }
+    Ok(())
 }
 
 // Reads the tape and shows its lines; nothing is written for one that is too long. (Each program's limit is its own;

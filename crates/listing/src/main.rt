@@ -22,16 +22,17 @@ fn show(rt: &impl Print, printed: &Printed) -> io::Result<()> {
     emit(rt, printed.text.as_bytes(), printed)
 }
 
-// Prints the listing of a tape: the first step, then each from where the one before left off.
+// Prints the listing of a tape: the first step, then each from where the one before left off. (The range is longer than any tape has
+// lines; its number is that of the turn's line, so that a turn after which the loop goes on is one step.)
 fn list(rt: &impl Print, tape: &[u8]) -> io::Result<()> {
     let mut printed = listing_text::opening(tape);
     show(rt, &printed)?;
-    // Counted here: the loop ends by what a step prints, and by no range.
-    let mut line = 0u32;
-    while let Some(place) = printed.next {
+    for line in 0..u32::MAX {
+        let Some(place) = printed.next else {
+            break;
+        };
         printed = listing_text::list_line(printed.state, tape, place, line);
         show(rt, &printed)?;
-        line += 1;
     }
     Ok(())
 }

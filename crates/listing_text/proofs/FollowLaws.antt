@@ -70,11 +70,6 @@ abbrev pub Within : (tape : List ℕ) (line : ℕ) → Option ℕ → Type 0
 Within tape line (Some place) = (line < place) × ((place ≤ suc (length tape)) × (length tape ≤ longest))
 Within tape line None = Unit {0}
 
--- How far the end of the steps lies ahead.
-abbrev pub ahead : (tape : List ℕ) → Option ℕ → ℕ
-ahead tape (Some place) = suc (suc (length tape)) - place
-ahead tape None = 0
-
 pub within_opening :
     (tape : List ℕ) (answer : Printed) → Prints (opening_text tape) (opening_next tape) start_state answer → Within tape 0 answer.next
 within_opening tape answer prints =
@@ -102,14 +97,3 @@ module _
           (omega (arith, before.0), (omega arith, before.1.1))
       by_verdict Ended e = tt
       by_verdict (Refused n i) e = tt
-
-  pub ahead_falls : ahead tape answer.next < ahead tape (Some place)
-  ahead_falls = rw next_is (by_verdict (play_answer s tape place line_rooms).verdict refl)
-    where
-      by_verdict : (v : Verdict) → (play_answer s tape place line_rooms).verdict ≡ v → ahead tape (line_next v) < ahead tape (Some place)
-      by_verdict (Played next) e =
-          let here = played_here s tape place line_rooms next e in
-          let there = line_there tape place here.start next here.line in
-          omega (arith, before.1.0)
-      by_verdict Ended e = omega (arith, before.1.0)
-      by_verdict (Refused n i) e = omega (arith, before.1.0)

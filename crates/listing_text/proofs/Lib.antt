@@ -5,3 +5,4 @@ pub mod ListingLaws
 pub mod PrintedProof
 pub mod PutLaws
 pub mod StepLaws
+pub mod TextLaws

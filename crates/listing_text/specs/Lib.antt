@@ -4,3 +4,4 @@ pub mod Text
 pub mod LineText
 pub mod Listing
 pub mod PrintedCase
+pub mod TextRoom

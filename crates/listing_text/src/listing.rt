@@ -7,7 +7,7 @@ use crate::put::Text;
 use tia::State;
 
 // A step of the listing: the place of the tape's line that comes next, if one does, the state before it, and the printed line.
-#[derive(Clone, Drop)]
+#[derive(Clone, Copy)]
 pub struct Printed {
     pub next: Option<usize>,
     pub state: State,

@@ -3,22 +3,32 @@ ghost use Rattle.std.specs.Prelude.{◌≡◌, [], ◌+◌, ◌≤◌, ◌<◌, 
 ghost use Rattle.listing_text.specs.Room.{HasRoom, Put};
 ghost use Rattle.listing_text.specs.Text.{hex_digit, hex_byte};
 
-use arrayvec::ArrayString;
 use itoa::{Buffer, Integer};
 use std::marker::Model;
 
-// Text of at most 64 bytes. A contract sees its bytes.
-#[derive(Clone, Drop)]
+// Text of at most 64 bytes: the first ones of a room that has zeros after them. A contract sees its bytes.
+#[derive(Clone, Copy)]
 pub struct Text {
-    string: ArrayString<64>,
+    room: [u8; 64],
+    len: usize,
 }
 
 impl Model for Text {
-    ghost use Rattle.std.specs.Prelude.{ℕ, List};
+    ghost use Rattle.std.specs.Prelude.{ℕ, List, length, take};
+    ghost use Rattle.listing_text.specs.TextRoom.{Filled, room_of, room_back, len_back};
 
     ghost Value = { List ℕ };
 
-    ghost view = { λ t. t.string.bytes };
+    ghost view = { λ t. take t.len t.room };
+
+    ghost invariant = { λ t. Filled t.len t.room };
+
+    ghost inverse = { λ text. record { room = room_of text; len = length text } };
+
+    ghost inverse_ok = { λ t filled i. record {
+      room = room_back t.len t.room filled i;
+      len = len_back t.len t.room filled i;
+    } };
 }
 
 impl Text {
@@ -27,7 +37,8 @@ impl Text {
         ensures { result ≡ [] }
     {
         Text {
-            string: ArrayString::new(),
+            room: [0; 64],
+            len: 0,
         }
     }
 
@@ -47,7 +58,7 @@ impl Text {
         ensures bytes { result.now ≡ self.now }
         ensures fits { length result.now ≤ 64 }
     {
-        self.string.as_str().as_bytes()
+        &self.room[..self.len]
     }
 
     // Puts some text.
@@ -55,7 +66,17 @@ impl Text {
         requires { HasRoom (length part.now) self.old }
         ensures { Put part.now (length part.now) self.old self.new }
     {
-        self.string.push_str(part);
+        self.put_bytes(part.as_bytes());
+    }
+
+    // Puts some bytes.
+    fn put_bytes(&mut self, part: &[u8])
+        requires { HasRoom (length part.now) self.old }
+        ensures { Put part.now (length part.now) self.old self.new }
+    {
+        let end = self.len + part.len();
+        self.room[self.len..end].copy_from_slice(part);
+        self.len = end;
     }
 
     // Puts a number in decimal.
@@ -72,8 +93,7 @@ impl Text {
         requires { HasRoom 2 self.old }
         ensures { Put (hex_byte byte) 2 self.old self.new }
     {
-        self.string.push(char::from(hex_digit(byte / 16)));
-        self.string.push(char::from(hex_digit(byte % 16)));
+        self.put_bytes(&[hex_digit(byte / 16), hex_digit(byte % 16)]);
     }
 }
 

@@ -20,7 +20,7 @@ use Rattle.tia.specs.declared.state.State.{State}
 use Rattle.tia.specs.Line.{line_of, Buffers, Rooms, rooms_of, pictures}
 use Rattle.tia.specs.Answers.{line_fault, line_answer, line_buffers}
 use Rattle.tia.proofs.RefusalLaws.{line_refused_exactly}
-use Rattle.replay.specs.Verdict.{Verdict, PlayAnswer, verdict_of}
+use Rattle.replay.specs.Verdict.{Verdict, PlayAnswer, verdict_of, played_answer}
 use Rattle.replay.specs.Verdict as verdict
 use Rattle.replay.specs.Play.{play_answer, play_buffers, PlayPromise}
 use Rattle.replay.specs.Play.{verdict_numbers, PlayNumbers, play_numbers}
@@ -42,6 +42,13 @@ pub same_result : {a b : Result (Option ℕ) Fault} → verdict_of a ≡ verdict
 same_result {a = Ok (Some next)} {b = b} e = grind (arith, same_refusal)
 same_result {a = Ok None} {b = b} e = grind (arith, same_refusal)
 same_result {a = Err fault} {b = b} e = grind (arith, same_refusal)
+
+-- Equal numbers mean that the call answers the same and leaves the same state.
+pub same_played :
+    {a b : Result (Option ℕ) Fault} {s t : State} → play_numbers (played_answer a s) ≡ play_numbers (played_answer b t) → (a ≡ b) × (s ≡ t)
+same_played {a} {b} {s} {t} e =
+    let played = same_play {a = played_answer a s} {b = played_answer b t} e in
+    (same_result (ap (λ (p : PlayAnswer). p.verdict) played), ap (λ (p : PlayAnswer). p.state) played)
 
 -- What playing a line answers, by its promise.
 pub play_answered :

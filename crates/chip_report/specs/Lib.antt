@@ -1,0 +1,2 @@
+-- What the report has for an answer of the chip.
+pub mod Numbers
