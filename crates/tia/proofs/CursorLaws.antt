@@ -40,13 +40,14 @@ no_records (c ∷ a ∷ v ∷ later) h = absurd (omega arith)
 -- The rest of a list, cut into records.
 pub ruleset records_at = (records_left, no_records, length-drop, take_all)
 
--- The check under way: the records left decide the fault of the whole list.
+-- The check under way: what is left begins at the record of the index, and its records decide the fault of the whole list.
 pub record Checking (ws rest : List ℕ) (index least : ℕ) : Type 0 where
+  pub part : rest ≡ drop (3 * index) ws
   pub counted : length rest + 3 * index ≤ length ws
   pub decides : first_fault index least (records_of rest) ≡ first_fault 0 0 (records_of ws)
 
 pub check_starts : (ws : List ℕ) → Checking ws ws 0 0
-check_starts ws = record { counted = omega arith; decides = refl }
+check_starts ws = record { part = refl; counted = omega arith; decides = refl }
 
 module _ (ws rest : List ℕ) (index least number : ℕ) (now : Checking ws rest index least) (h : 3 ≤ length rest) where
   pub check_goes_on :
@@ -55,6 +56,9 @@ module _ (ws rest : List ℕ) (index least number : ℕ) (now : Checking ws rest
   unfolding first_fault
   check_goes_on e none =
       record {
+        part =
+            ap (λ (left : List ℕ). drop 3 left) now.part
+            ∙ (drop-drop 3 (3 * index) ws ∙ ap (λ (at : ℕ). drop at ws) (omega arith));
         counted = omega (arith, now.counted, length-drop 3 rest);
         decides = rw (add-one index) (rw (records_left rest h, ← e, none) at now.decides);
       }
